@@ -1,0 +1,23 @@
+-- How sheets and transcripts write a side, a class and a mechanism.
+use mathlib.Core.List.{List}
+use Prim.Native.Nat.{ℕ}
+use lib.Chars.{codes}
+use Rattle.market.specs.declared.names.Side.{Side}
+use Rattle.market.specs.declared.names.Side.the-variants.{Buy, Sell}
+use Rattle.market.specs.declared.names.Class.{Class}
+use Rattle.market.specs.declared.names.Class.the-variants.{Customer, Other}
+use Rattle.market.specs.declared.names.Mechanism.{Mechanism}
+use Rattle.market.specs.declared.names.Mechanism.the-variants.{Block, Facilitation, Solicited}
+
+abbrev pub sideName : Side → List ℕ
+sideName Buy = codes "buy"
+sideName Sell = codes "sell"
+
+abbrev pub className : Class → List ℕ
+className Customer = codes "customer"
+className Other = codes "other"
+
+abbrev pub mechanismName : Mechanism → List ℕ
+mechanismName Block = codes "block"
+mechanismName Facilitation = codes "fac"
+mechanismName Solicited = codes "sol"

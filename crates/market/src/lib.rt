@@ -1,0 +1,2 @@
+// The vocabulary of the market: sides, classes and mechanisms, and how each is written.
+pub mod names;

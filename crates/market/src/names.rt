@@ -1,0 +1,59 @@
+// Sides, classes and mechanisms.
+ghost use Rattle.std.specs.declared.option.Option.the-variants.{Some};
+ghost use Rattle.market.specs.Names.{sideName, className, mechanismName};
+use std::fmt;
+
+#[derive(Clone, Copy, PartialEq, Eq)]
+pub enum Side {
+    Buy,
+    Sell,
+}
+
+// Whose an order is: a Priority Customer's, or anyone else's.
+#[derive(Clone, Copy, PartialEq, Eq)]
+pub enum Class {
+    Customer,
+    Other,
+}
+
+// How an agency order is crossed.
+#[derive(Clone, Copy, PartialEq, Eq)]
+pub enum Mechanism {
+    Block,
+    Facilitation,
+    Solicited,
+}
+
+pub impl fmt::Display for Side as SideDisplay {
+    ghost shown = { λ s. Some (sideName s) };
+
+    fn fmt<W: fmt::Write>(&self, f: &mut fmt::Formatter<W>) -> fmt::Result {
+        match self {
+            Side::Buy => write!(f, "buy"),
+            Side::Sell => write!(f, "sell"),
+        }
+    }
+}
+
+pub impl fmt::Display for Class as ClassDisplay {
+    ghost shown = { λ k. Some (className k) };
+
+    fn fmt<W: fmt::Write>(&self, f: &mut fmt::Formatter<W>) -> fmt::Result {
+        match self {
+            Class::Customer => write!(f, "customer"),
+            Class::Other => write!(f, "other"),
+        }
+    }
+}
+
+pub impl fmt::Display for Mechanism as MechanismDisplay {
+    ghost shown = { λ m. Some (mechanismName m) };
+
+    fn fmt<W: fmt::Write>(&self, f: &mut fmt::Formatter<W>) -> fmt::Result {
+        match self {
+            Mechanism::Block => write!(f, "block"),
+            Mechanism::Facilitation => write!(f, "fac"),
+            Mechanism::Solicited => write!(f, "sol"),
+        }
+    }
+}

@@ -1,0 +1,3 @@
+pub mod Troubles
+pub mod Parser
+pub mod View
