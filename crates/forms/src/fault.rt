@@ -50,15 +50,24 @@ impl Fault {
     }
 }
 
+impl Stray {
+    fn text(&self) -> &'static str
+        ensures { λ r. ⌜ now r ≡ strayText (now (self .entry)) ⌝ }
+    {
+        match self {
+            Stray::Late => "the first form is no house form",
+            Stray::Again => "a second house form",
+            Stray::Missing => "there is no house form",
+        }
+    }
+}
+
 pub impl fmt::Display for Stray as StrayDisplay {
     ghost shown = { λ x. Some (strayText x) };
 
     fn fmt<W: fmt::Write>(&self, f: &mut fmt::Formatter<W>) -> fmt::Result {
-        match self {
-            Stray::Late => write!(f, "the first form is no house form"),
-            Stray::Again => write!(f, "a second house form"),
-            Stray::Missing => write!(f, "there is no house form"),
-        }
+        let text = self.text();
+        write!(f, "{text}")
     }
 }
 

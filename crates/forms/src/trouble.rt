@@ -1,4 +1,5 @@
 // Why a line is outside the grammar.
+ghost use mathlib.Core.Path.{_≡_};
 ghost use Rattle.std.specs.declared.option.Option.the-variants.{Some};
 ghost use Rattle.forms.specs.Texts.{expectedText, foundText, troubleText};
 use std::fmt;
@@ -43,27 +44,51 @@ pub struct Trouble {
     pub found: Found,
 }
 
+impl Expected {
+    fn text(&self) -> &'static str
+        ensures { λ r. ⌜ now r ≡ expectedText (now (self .entry)) ⌝ }
+    {
+        match self {
+            Expected::Form => "a form or a comment",
+            Expected::Name => "the name of a form",
+            Expected::Number => "a number",
+            Expected::Side => "buy or sell",
+            Expected::Class => "customer or other",
+            Expected::Edge => "bid or offer",
+            Expected::Kind => "series or net",
+            Expected::Mechanism => "block, fac or sol",
+            Expected::Reserve => "the word reserve",
+            Expected::Time => "the word time",
+            Expected::At => "the word at",
+            Expected::Opening => "an opening bracket",
+            Expected::Closing => "a closing bracket",
+            Expected::Size => "a size or a closing bracket",
+            Expected::Leg => "a leg or a closing bracket",
+            Expected::LineEnd => "the end of the line",
+        }
+    }
+}
+
 pub impl fmt::Display for Expected as ExpectedDisplay {
     ghost shown = { λ x. Some (expectedText x) };
 
     fn fmt<W: fmt::Write>(&self, f: &mut fmt::Formatter<W>) -> fmt::Result {
+        let text = self.text();
+        write!(f, "{text}")
+    }
+}
+
+impl Found {
+    fn text(&self) -> &'static str
+        ensures { λ r. ⌜ now r ≡ foundText (now (self .entry)) ⌝ }
+    {
         match self {
-            Expected::Form => write!(f, "a form or a comment"),
-            Expected::Name => write!(f, "the name of a form"),
-            Expected::Number => write!(f, "a number"),
-            Expected::Side => write!(f, "buy or sell"),
-            Expected::Class => write!(f, "customer or other"),
-            Expected::Edge => write!(f, "bid or offer"),
-            Expected::Kind => write!(f, "series or net"),
-            Expected::Mechanism => write!(f, "block, fac or sol"),
-            Expected::Reserve => write!(f, "the word reserve"),
-            Expected::Time => write!(f, "the word time"),
-            Expected::At => write!(f, "the word at"),
-            Expected::Opening => write!(f, "an opening bracket"),
-            Expected::Closing => write!(f, "a closing bracket"),
-            Expected::Size => write!(f, "a size or a closing bracket"),
-            Expected::Leg => write!(f, "a leg or a closing bracket"),
-            Expected::LineEnd => write!(f, "the end of the line"),
+            Found::Opening => "an opening bracket",
+            Found::Closing => "a closing bracket",
+            Found::Word => "another word",
+            Found::BadByte => "a byte that no form has",
+            Found::LongWord => "a word of over 16 bytes",
+            Found::LineEnd => "the end of the line",
         }
     }
 }
@@ -72,14 +97,8 @@ pub impl fmt::Display for Found as FoundDisplay {
     ghost shown = { λ x. Some (foundText x) };
 
     fn fmt<W: fmt::Write>(&self, f: &mut fmt::Formatter<W>) -> fmt::Result {
-        match self {
-            Found::Opening => write!(f, "an opening bracket"),
-            Found::Closing => write!(f, "a closing bracket"),
-            Found::Word => write!(f, "another word"),
-            Found::BadByte => write!(f, "a byte that no form has"),
-            Found::LongWord => write!(f, "a word of over 16 bytes"),
-            Found::LineEnd => write!(f, "the end of the line"),
-        }
+        let text = self.text();
+        write!(f, "{text}")
     }
 }
 
