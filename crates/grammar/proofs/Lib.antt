@@ -5,3 +5,5 @@ pub mod Parsing
 pub mod Lexed
 pub mod Saying
 pub mod Canon
+pub mod Sheets
+pub mod Parts

@@ -74,6 +74,10 @@ readLines n forms (s ∷ ss) = onLine n forms (lineOf n 1 s) (λ b. readLines (n
 abbrev pub readOf : List ℕ → Result (List Located) Fault
 readOf s = cond (ltb longest (length s)) (Err TooLong) (readLines 1 false (s ∷ later s))
 
--- the verdict on a sheet: accepted, or its fault
+-- accepted, or the fault
+abbrev pub accepted : Result (List Located) Fault → Result (Unit {0}) Fault
+accepted r = seen (λ _. tt) r
+
+-- the verdict on a sheet
 abbrev pub verdictOf : List ℕ → Result (Unit {0}) Fault
-verdictOf s = seen (λ _. tt) (readOf s)
+verdictOf s = accepted (readOf s)
