@@ -7,3 +7,4 @@ pub mod Saying
 pub mod Canon
 pub mod Sheets
 pub mod Parts
+pub mod Retelling

@@ -1,3 +1,4 @@
 pub mod Grammar
 pub mod Sheets
 pub mod Reading
+pub mod Listing
