@@ -1,7 +1,6 @@
 -- One line, read by a reader.
-use mathlib.Core.Bool.{Bool}
+use mathlib.Core.Bool.{Bool, true, false, cond}
 use mathlib.Core.List.{List, [], _∷_}
-use mathlib.Core.Logic.{_⊎_, inl, inr}
 use mathlib.Core.Path.{_≡_, refl, sym, ap, subst, _∙_}
 use Prim.Native.Nat.{ℕ, _+_}
 use native.Mathlib.Omega.{arith}
@@ -28,7 +27,10 @@ use Rattle.grammar.specs.Reading.{formed, start, lineOf}
 use Rattle.grammar.proofs.Fields.{ok-same}
 use Rattle.grammar.proofs.Lexed.{Ends, lex-ends}
 use Rattle.grammar.proofs.Saying.{line-end}
-use Rattle.sheet.specs.Lines.{lineHere, SameLine, houseIn, LineRead}
+use Rattle.sheet.specs.Lines.{blankAt, lineHere, SameLine, houseIn, LineRead}
+
+both : {A : Type 0} → false ≡ true → A
+both e = let z : _≡_ {A = ℕ} 1 0 = ap (λ b. cond b 0 1) e in absurd (omega arith)
 
 skips-line : {c d : ℕ} {s t : List ℕ} (l : ℕ) → Skips c s d t → lineOf l c s ≡ lineOf l d t
 skips-line l none = refl
@@ -45,21 +47,29 @@ line-start : (l c : ℕ) (s : List ℕ) (k : Kind) → next s ≡ k → lineOf l
 line-start l c [] k e = ap (λ j. start j (lineOf l (c + 1) []) (formed l (lex l c []))) e
 line-start l c (b ∷ bs) k e = ap (λ j. start j (lineOf l (c + 1) bs) (formed l (lex l c (b ∷ bs)))) e
 
-start-form : (k : Kind) (r f : Result Said Trouble) → (k ≡ LineEnd → ⊥) → (k ≡ Semicolon → ⊥) → (k ≡ Space → ⊥) → start k r f ≡ f
-start-form LineEnd r f a b c = absurd (a refl)
-start-form Space r f a b c = absurd (c refl)
-start-form Open r f a b c = refl
-start-form Close r f a b c = refl
-start-form Semicolon r f a b c = absurd (b refl)
-start-form Letter r f a b c = refl
-start-form Other r f a b c = refl
+start-blank : (k : Kind) (r f : Result Said Trouble) → blankAt k ≡ true → start k r f ≡ Ok blank
+start-blank LineEnd r f h = refl
+start-blank Space r f h = both h
+start-blank Open r f h = both h
+start-blank Close r f h = both h
+start-blank Semicolon r f h = refl
+start-blank Letter r f h = both h
+start-blank Other r f h = both h
 
-pub says-nothing : (r : Reader) (k : Kind) → next (rest (r .scan)) ≡ k → (k ≡ LineEnd) ⊎ (k ≡ Semicolon) → lineHere r ≡ Ok blank
-says-nothing r k is (inl e) = line-start (r .scan .line) (r .scan .column) (rest (r .scan)) LineEnd (is ∙ e)
-says-nothing r k is (inr e) = line-start (r .scan .line) (r .scan .column) (rest (r .scan)) Semicolon (is ∙ e)
+start-form : (k : Kind) (r f : Result Said Trouble) → blankAt k ≡ false → (k ≡ Space → ⊥) → start k r f ≡ f
+start-form LineEnd r f h c = both (sym h)
+start-form Space r f h c = absurd (c refl)
+start-form Open r f h c = refl
+start-form Close r f h c = refl
+start-form Semicolon r f h c = both (sym h)
+start-form Letter r f h c = refl
+start-form Other r f h c = refl
 
-pub says-form : (r : Reader) (k : Kind) → next (rest (r .scan)) ≡ k → (k ≡ LineEnd → ⊥) → (k ≡ Semicolon → ⊥) → (k ≡ Space → ⊥) → lineHere r ≡ formed (r .scan .line) (tokens r)
-says-form r k is a b c = line-start (r .scan .line) (r .scan .column) (rest (r .scan)) k is ∙ start-form k _ _ a b c
+pub says-nothing : (r : Reader) (k : Kind) (b : Bool) → k ≡ next (rest (r .scan)) → b ≡ blankAt k → b ≡ true → lineHere r ≡ Ok blank
+says-nothing r k b is e h = line-start (r .scan .line) (r .scan .column) (rest (r .scan)) k (sym is) ∙ start-blank k _ _ (sym e ∙ h)
+
+pub says-form : (r : Reader) (k : Kind) (b : Bool) → k ≡ next (rest (r .scan)) → (k ≡ Space → ⊥) → b ≡ blankAt k → b ≡ false → lineHere r ≡ formed (r .scan .line) (tokens r)
+says-form r k b is other e h = line-start (r .scan .line) (r .scan .column) (rest (r .scan)) k (sym is) ∙ start-form k _ _ (sym e ∙ h) other
 
 -- the form, the trouble with it, or the trouble behind it
 pub form-trouble : (l : ℕ) (ts : List Tok) (t : Trouble) → formOf ts ≡ Err t → formed l ts ≡ Err t

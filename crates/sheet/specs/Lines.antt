@@ -7,6 +7,8 @@ use Rattle.std.specs.declared.option.Option.{Option}
 use Rattle.std.specs.declared.option.Option.the-variants.{Some, None}
 use Rattle.std.specs.declared.result.Result.{Result}
 use Rattle.std.specs.declared.result.Result.the-variants.{Ok, Err}
+use Rattle.words.specs.declared.bytes.Kind.{Kind}
+use Rattle.words.specs.declared.bytes.Kind.the-variants.{LineEnd, Space, Open, Close, Semicolon, Letter, Other}
 use Rattle.words.specs.Bytes.{behind}
 use Rattle.words.specs.View.{rest, wordsIn}
 use Rattle.forms.specs.declared.fault.Fault.{Fault}
@@ -34,6 +36,16 @@ located x = record { line = x .line; shape = shape (x .form); words = wordsIn (t
 -- what the line at a reader's place says
 abbrev pub lineHere : Reader → Result Said Trouble
 lineHere r = lineOf (r .scan .line) (r .scan .column) (rest (r .scan))
+
+-- whether a line that goes on with this has no form
+abbrev pub blankAt : Kind → Bool
+blankAt LineEnd = true
+blankAt Space = false
+blankAt Open = false
+blankAt Close = false
+blankAt Semicolon = true
+blankAt Letter = false
+blankAt Other = false
 
 -- two readers stand on one line
 pub record SameLine (before after : Reader) : Type 0 where

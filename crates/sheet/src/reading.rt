@@ -1,9 +1,11 @@
 // The verdict on a sheet, and its forms.
-ghost use mathlib.Core.Bool.{cond, true, false};
 ghost use mathlib.Core.Path.{_≡_};
+ghost use lib.Dec.{ltb};
+ghost use lib.ListN.{length};
 ghost use Rattle.std.specs.Of.Vec.{vec-items};
 ghost use Rattle.grammar.specs.Reading.{stray};
-ghost use Rattle.sheet.specs.Lines.{LineChecked, LineRead, LineJudged, LineNoted, unreadLine};
+ghost use Rattle.grammar.specs.Sheets.{longest};
+ghost use Rattle.sheet.specs.Lines.{blankAt, LineChecked, LineRead, LineJudged, LineNoted, unreadLine};
 ghost use Rattle.sheet.specs.Promises.{Verdict, ReadAs};
 use crate::located::Located;
 use crate::located::ReadError;
@@ -20,34 +22,47 @@ use words::bytes::Kind;
 // The most bytes that a sheet has.
 pub const LONGEST: usize = 65536;
 
+// Whether a sheet has too many bytes.
+fn too_long(sheet: &[u8]) -> bool
+    ensures { λ r. ⌜ r ≡ ltb longest (length (now (sheet .entry))) ⌝ }
+{
+    sheet.len() > LONGEST
+}
+
+// Whether a line that goes on with this has no form: it ends there, or a comment begins.
+fn is_blank(kind: Kind) -> bool
+    ensures { λ r. ⌜ r ≡ blankAt kind ⌝ }
+{
+    match kind {
+        Kind::LineEnd | Kind::Semicolon => true,
+        _ => false,
+    }
+}
+
 // Passes over a line: nothing, or whether its form is a house form.
 fn check_line(reader: &mut Reader) -> Result<Option<bool>, Trouble>
     ensures { λ r. ⌜ LineChecked r (now (reader .entry)) (now (reader .exit)) ⌝ }
 {
-    match reader.spaces() {
-        Kind::LineEnd | Kind::Semicolon => Ok(None),
-        _ => {
-            let house = reader.check_form()?;
-            reader.end()?;
-            Ok(Some(house))
-        }
+    if is_blank(reader.spaces()) {
+        return Ok(None);
     }
+    let house = reader.check_form()?;
+    reader.end()?;
+    Ok(Some(house))
 }
 
 // What a line says: nothing, or a form.
 fn read_line<'a>(reader: &mut Reader<'a>, heap: Global) -> Result<Option<Located<'a>>, FormError>
     ensures { λ r. ⌜ LineRead r (now (reader .entry)) (now (reader .exit)) ⌝ }
 {
-    match reader.spaces() {
-        Kind::LineEnd | Kind::Semicolon => Ok(None),
-        _ => {
-            let start = *reader;
-            let line = reader.line_number();
-            let form = reader.form(heap)?;
-            reader.end()?;
-            Ok(Some(Located { line, form, start }))
-        }
+    if is_blank(reader.spaces()) {
+        return Ok(None);
     }
+    let start = *reader;
+    let line = reader.line_number();
+    let form = reader.form(heap)?;
+    reader.end()?;
+    Ok(Some(Located { line, form, start }))
 }
 
 // What is wrong with the place of a form, where forms stand before it or none does.
@@ -115,7 +130,7 @@ fn unread(error: FormError, line: u32) -> ReadError
 pub fn verdict(sheet: &[u8]) -> Result<(), Fault>
     ensures { λ r. ⌜ Verdict (now (sheet .entry)) r ⌝ }
 {
-    if sheet.len() > LONGEST {
+    if too_long(sheet) {
         return Err(Fault::TooLong);
     }
     let mut reader = Reader::new(sheet);
@@ -140,7 +155,7 @@ pub fn verdict(sheet: &[u8]) -> Result<(), Fault>
 pub fn read(heap: Global, sheet: &[u8]) -> Result<Vec<Located<'_>>, ReadError>
     ensures { λ r. ⌜ ReadAs (now (sheet .entry)) r ⌝ }
 {
-    if sheet.len() > LONGEST {
+    if too_long(sheet) {
         return Err(ReadError::Fault(Fault::TooLong));
     }
     let mut reader = Reader::new(sheet);

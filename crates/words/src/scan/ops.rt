@@ -164,7 +164,8 @@ impl<'a> Scanner<'a> {
     pub fn line_number(&self) -> u32
         ensures { λ r. ⌜ r ≡ now (self .entry) .line ⌝ }
     {
-        self.line
+        let Scanner { line, .. } = *self;
+        line
     }
 
     // Moves to the start of the next line, or to the end of the sheet where there is none.

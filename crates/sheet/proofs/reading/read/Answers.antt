@@ -1,20 +1,20 @@
-use native.Mathlib.Omega.{arith}
 use mathlib.Core.Bool.{true, false}
+use mathlib.Core.Path.{sym, _∙_}
 use Prim.Native.Nat.{_+_}
 use lib.ListN.{length}
 use Rattle.std.proofs.shelf.Results.{err-from-errBy}
-use Rattle.std.proofs.shelf.Tests.{cond-true, lt-ltb}
+use Rattle.std.proofs.shelf.Tests.{cond-true, ltb-false}
 use Rattle.std.specs.Of.Vec.{vec-items}
 use Rattle.forms.specs.declared.fault.Fault.the-variants.{TooLong}
 use Rattle.grammar.specs.Sheets.{longest}
 use Rattle.sheet.proofs.Whole.{read-fault, read-forms, some-found, noting-first, noting-stop, noting-more, noting-last, noting-none, noting-all, next-shorter}
 use Rattle.sheet.proofs.reading.read.Needs as need
 
-pub returns-then-sheet-gt-LONGEST : need.returns-then-sheet-gt-LONGEST
-returns-then-sheet-gt-LONGEST c = let s = c .args .sheet .now in read-fault s TooLong (cond-true _ _ _ (lt-ltb longest (length s) (omega arith)))
+pub returns-then-too-long : need.returns-then-too-long
+returns-then-too-long c = let s = c .args .sheet .now in read-fault s TooLong (cond-true _ _ _ (sym (c .too-long .ensures) ∙ c .if-too-long .taken))
 
 pub loop-found-holds : need.loop-found-holds
-loop-found-holds c = let i = c .new-reader .ensures in noting-first (c .args .sheet .now) (c .new-reader .result) (vec-items (c .new-found .result)) (c .new-found .ensures .items) (omega arith) (i .0) (i .1) (i .2) (i .3)
+loop-found-holds c = let i = c .new-reader .ensures in noting-first (c .args .sheet .now) (c .new-reader .result) (vec-items (c .new-found .result)) (c .new-found .ensures .items) (ltb-false longest _ (sym (c .too-long .ensures) ∙ c .if-too-long .left)) (i .0) (i .1) (i .2) (i .3)
 
 pub returns-in-Break-note-line : need.returns-in-Break-note-line
 returns-in-Break-note-line c =

@@ -1,20 +1,19 @@
-use native.Mathlib.Omega.{arith}
 use mathlib.Core.Path.{sym, ap, _∙_}
 use mathlib.Core.List.{[]}
 use Prim.Native.Nat.{_+_}
 use lib.ListN.{length}
 use Rattle.std.proofs.shelf.Results.{err-from-errBy}
-use Rattle.std.proofs.shelf.Tests.{cond-true, lt-ltb}
+use Rattle.std.proofs.shelf.Tests.{cond-true, ltb-false}
 use Rattle.grammar.specs.Reading.{accepted, readLines}
 use Rattle.grammar.specs.Sheets.{longest}
 use Rattle.sheet.proofs.Whole.{verdict-is, judging-first, judging-fault, judging-more, judging-last, next-shorter}
 use Rattle.sheet.proofs.reading.verdict.Needs as need
 
-pub returns-then-sheet-gt-LONGEST : need.returns-then-sheet-gt-LONGEST
-returns-then-sheet-gt-LONGEST c = let s = c .args .sheet .now in verdict-is s _ (sym (ap accepted (cond-true _ _ _ (lt-ltb longest (length s) (omega arith)))))
+pub returns-then-too-long : need.returns-then-too-long
+returns-then-too-long c = let s = c .args .sheet .now in verdict-is s _ (sym (ap accepted (cond-true _ _ _ (sym (c .too-long .ensures) ∙ c .if-too-long .taken))))
 
 pub loop-forms-holds : need.loop-forms-holds
-loop-forms-holds c = let i = c .new-reader .ensures in judging-first (c .args .sheet .now) (c .new-reader .result) (omega arith) (i .0) (i .1) (i .2) (i .3)
+loop-forms-holds c = let i = c .new-reader .ensures in judging-first (c .args .sheet .now) (c .new-reader .result) (ltb-false longest _ (sym (c .too-long .ensures) ∙ c .if-too-long .left)) (i .0) (i .1) (i .2) (i .3)
 
 pub returns-in-Break-forms : need.returns-in-Break-forms
 returns-in-Break-forms c =
