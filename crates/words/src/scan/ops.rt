@@ -2,7 +2,7 @@
 ghost use mathlib.Core.Bool.{cond};
 ghost use mathlib.Core.Path.{_≡_};
 ghost use Prim.Native.Nat.{ℕ, _+_, _-_, _<_, _≤_};
-ghost use lib.Dec.{eqb};
+ghost use lib.Dec.{eqb, ltb};
 ghost use lib.ListN.{length, take, drop, getD};
 ghost use Rattle.words.specs.declared.bytes.Kind.the-variants.{Space};
 ghost use Rattle.words.specs.Bytes.{next, run, behind, Skips};
@@ -13,6 +13,13 @@ use crate::bytes::Kind;
 use crate::bytes::kind_of;
 use crate::token::Token;
 use crate::token::Word;
+
+// Whether a run of a word's bytes is too long for a word.
+fn is_long(word: Word) -> bool
+    ensures { λ r. ⌜ r ≡ ltb 16 (length (word .entry .bytes .now)) ⌝ }
+{
+    word.bytes.len() > 16
+}
 
 impl<'a> Scanner<'a> {
     // At the start of a sheet, of which 65,536 bytes are read.
@@ -59,6 +66,13 @@ impl<'a> Scanner<'a> {
                 column: self.column + 1,
             };
         }
+    }
+
+    // Whether no byte is left.
+    fn at_end(&self) -> bool
+        ensures { λ r. ⌜ r ≡ eqb (now (self .entry) .at) (length (now (self .entry) .sheet .now)) ⌝ }
+    {
+        self.at == self.sheet.len()
     }
 
     // The kind of the next byte.
@@ -134,7 +148,7 @@ impl<'a> Scanner<'a> {
             Kind::Letter => {
                 let start = *self;
                 let word = self.word();
-                if word.bytes.len() > 16 {
+                if is_long(word) {
                     *self = start;
                     Token::LongWord(word.column)
                 } else {
@@ -179,7 +193,7 @@ impl<'a> Scanner<'a> {
                 _ => self.step(),
             }
         }
-        if self.at == self.sheet.len() {
+        if self.at_end() {
             return false;
         }
         self.step();

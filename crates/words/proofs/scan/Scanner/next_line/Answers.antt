@@ -4,7 +4,7 @@ use mathlib.Core.Path.{_≡_, refl, sym, ap, _∙_}
 use Prim.Native.Nat.{ℕ, _+_, _<_, _≤_}
 use lib.ListN.{length, getD, drop}
 use Rattle.std.proofs.shelf.Lists.{at-drop-more, at-drop-all}
-use Rattle.std.proofs.shelf.Tests.{cond-true, eq-eqb}
+use Rattle.std.proofs.shelf.Tests.{cond-true, eq-eqb, eqb-true, eqb-false}
 use Rattle.words.specs.declared.bytes.Kind.the-variants.{LineEnd}
 use Rattle.words.specs.Bytes.{behind}
 use Rattle.words.proofs.ByteKinds.{within, told-at}
@@ -23,11 +23,12 @@ loop-self-again c =
     let t = step-is r (c .step .last .self) (c .peek .result) (sym (c .peek .ensures)) (c .in-rest .not-LineEnd) (m .at) (m .sheet) (m .line) (m .column) in
     (t .same ∙ i .0, t .line ∙ i .1, t .tail ∙ i .2, omega arith)
 
-pub returns-then-self : need.returns-then-self
-returns-then-self c =
+pub returns-then-at-end : need.returns-then-at-end
+returns-then-at-end c =
     let r = c .loop-self .self in
     let i = c .loop-self .inv in
     let s = r .sheet .now in
+    let e = eqb-true _ _ (sym (c .at-end .ensures) ∙ c .if-at-end .taken) in
     (i .0, (sym (i .2) ∙ at-drop-all behind s (r .at) (omega arith), at-drop-all (λ l. l) s (r .at) (omega arith), i .1))
 
 pub returns : need.returns
@@ -37,6 +38,7 @@ returns c =
     let q = c .step-2 .last .self in
     let i = c .loop-self .inv in
     let m = c .step-2 .ensures in
+    let e = eqb-false _ _ (sym (c .at-end .ensures) ∙ c .if-at-end .left) in
     let l : r .at < length s = omega (arith, r .within) in
     let ten = told-at s (r .at) LineEnd l (sym (c .in-LineEnd .ensures tt)) in
     let is = eq-eqb _ 10 ten in

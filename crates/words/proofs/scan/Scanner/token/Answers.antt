@@ -3,7 +3,7 @@ use mathlib.Core.List.{[], _∷_}
 use mathlib.Core.Path.{_≡_, refl, sym, ap, subst, _∙_}
 use Prim.Native.Nat.{ℕ, _<_, _≤_}
 use lib.ListN.{length, take, drop}
-use Rattle.std.proofs.shelf.Tests.{cond-true, cond-false, le-leb, lt-leb}
+use Rattle.std.proofs.shelf.Tests.{cond-true, cond-false, le-leb, lt-leb, ltb-true, ltb-false}
 use Rattle.words.specs.declared.bytes.Kind.{Kind}
 use Rattle.words.specs.declared.bytes.Kind.the-variants.{LineEnd, Space, Open, Close, Letter}
 use Rattle.words.specs.declared.scan.Scanner.{Scanner}
@@ -53,19 +53,19 @@ returns-in-Close c =
     let t = step-is r (c .step-in-Close .last .self) Close (sym (s .next)) (λ e. let z : _≡_ {A = ℕ} 0 1 = cc in omega arith) (m .at) (m .sheet) (m .line) (m .column) in
     record { sheet = t .same ∙ s .sheet; read = spaces-tokens o r (s .line) (s .skips) ∙ t .read .1; part = tt }
 
-pub returns-then-word-gt16 : need.returns-then-word-gt16
-returns-then-word-gt16 c =
+pub returns-then-is-long : need.returns-then-is-long
+returns-then-is-long c =
     let o = c .args .self .now in
     let r = c .spaces .last .self in
     let s = c .in-Letter .ensures tt in
     let m = c .word-word .ensures in
     let same = spaces-tokens o r (s .line) (s .skips) in
     let w = word-is r (c .word-word .last .self) (c .word-word .result .bytes .now) (sym (s .next)) (m .at) (m .sheet) (m .line) (m .column) (m .run) (m .bytes) in
-    let long = w .read ∙ cond-false _ _ _ (lt-leb (length (c .word-word .result .bytes .now)) 16 (omega arith)) in
+    let long = w .read ∙ cond-false _ _ _ (lt-leb (length (c .word-word .result .bytes .now)) 16 (ltb-true 16 _ (sym (c .is-long .ensures) ∙ c .if-is-long .taken))) in
     record { sheet = s .sheet; read = (same ∙ long ∙ ap (λ n. longWord n ∷ []) (sym (m .here .1)), sym same); part = tt }
 
-pub returns-else-word-gt16 : need.returns-else-word-gt16
-returns-else-word-gt16 c =
+pub returns-else-is-long : need.returns-else-is-long
+returns-else-is-long c =
     let o = c .args .self .now in
     let r = c .spaces .last .self in
     let s = c .in-Letter .ensures tt in
@@ -73,7 +73,7 @@ returns-else-word-gt16 c =
     let v = c .word-word .result in
     let same = spaces-tokens o r (s .line) (s .skips) in
     let w = word-is r (c .word-word .last .self) (v .bytes .now) (sym (s .next)) (m .at) (m .sheet) (m .line) (m .column) (m .run) (m .bytes) in
-    let fits = w .read ∙ cond-true _ _ _ (le-leb (length (v .bytes .now)) 16 (omega arith)) in
+    let fits = w .read ∙ cond-true _ _ _ (le-leb (length (v .bytes .now)) 16 (ltb-false 16 _ (sym (c .is-long .ensures) ∙ c .if-is-long .left))) in
     record {
       sheet = m .sheet ∙ s .sheet;
       read = same ∙ fits ∙ (λ j. word (sym (m .here .0) j) (sym (m .here .1) j) (v .bytes .now) ∷ tokens (c .word-word .last .self));
