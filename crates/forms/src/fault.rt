@@ -3,9 +3,9 @@ ghost use mathlib.Core.Path.{_≡_};
 ghost use Rattle.std.specs.declared.option.Option.the-variants.{Some};
 ghost use Rattle.forms.specs.Faults.{numberOf, lineOf};
 ghost use Rattle.forms.specs.Texts.{strayText, faultText};
+use crate::trouble::Trouble;
 use crate::trouble::TroubleDisplay;
 use std::fmt;
-use crate::trouble::Trouble;
 
 // What is wrong with the place of the house form.
 #[derive(Clone, Copy)]

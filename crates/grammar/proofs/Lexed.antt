@@ -135,9 +135,9 @@ glued-lexes l c b s (toks.word m d w ∷ ts) h on ih = go (leb (length (b ∷ w)
   where
     go : (x : Bool) → leb (length (b ∷ w)) 16 ≡ x → Lexes l c (b ∷ s) (glued l c b (toks.word m d w ∷ ts))
     go true few = subst (Lexes l c (b ∷ s)) (sym (cond-true _ _ _ few)) (λ e.
-      let f = first-word (ih e) on in
-      subst (λ x. Pieces l c (b ∷ x) (piecesIn (toks.word l c (b ∷ w) ∷ ts))) (sym (f .parts))
-      (Pieces.words {w = b ∷ w} {s = f .t} (omega arith) (leb-true (length (b ∷ w)) 16 few) (h, f .all) (f .stops) (subst (λ n. Pieces l n (f .t) (piecesIn ts)) (omega arith) (f .left))))
+        let f = first-word (ih e) on in
+        subst (λ x. Pieces l c (b ∷ x) (piecesIn (toks.word l c (b ∷ w) ∷ ts))) (sym (f .parts))
+        (Pieces.words {w = b ∷ w} {s = f .t} (omega arith) (leb-true (length (b ∷ w)) 16 few) (h, f .all) (f .stops) (subst (λ n. Pieces l n (f .t) (piecesIn ts)) (omega arith) (f .left))))
     go false many = subst (Lexes l c (b ∷ s)) (sym (cond-false _ _ _ many)) (λ e. absurd e)
 glued-lexes l c b s (toks.badByte d ∷ ts) h on ih = λ e. absurd e
 glued-lexes l c b s (toks.longWord d ∷ ts) h on ih = λ e. absurd e

@@ -6,13 +6,13 @@ use lib.Chars.{codes}
 use lib.IntN.{ℤ}
 use Rattle.std.specs.declared.result.Result.{Result}
 use Rattle.std.specs.declared.result.Result.the-variants.{Ok}
-use Rattle.market.specs.Names.{className}
+use Rattle.market.specs.Names.{className, edgeName}
 use Rattle.words.specs.Number.{Number}
 use Rattle.words.specs.Tokens.{Tok}
 use Rattle.forms.specs.declared.form.Response.{Response}
 use Rattle.forms.specs.declared.trouble.Expected.the-variants as expected
 use Rattle.forms.specs.declared.trouble.Trouble.{Trouble}
-use Rattle.forms.specs.Shapes.{Shape, edgeName}
+use Rattle.forms.specs.Shapes.{Shape}
 use Rattle.forms.specs.Shapes as shapes
 use Rattle.parse.specs.Parser.{Read, then, numberOf, momentOf, closeOf, Beginning, whole, legsOf, sizesOf, closed, houseOf, houseIn, quoteOf, restOf, awayOf, enterOf, responseOf, respondOf, amendOf, deleteOf, settleOf, haltOf, bodyOf, beginOf, finishOf, formOf, nextLegOf, sizeOf, itemsOf}
 use Rattle.grammar.specs.Grammar.{Bare, keyed, Writes}
@@ -138,9 +138,11 @@ quote-sound ts us vs b f e h =
     let a = then-ok (itemsOf sizeOf (o .left)) _ _ ((λ j. finishOf (i j .0) (i j .1)) ∙ h) in
     let n = sizes .sound (o .left) (a .1) (a .0) (a .2) in
     let c = step closing-read (a .3) in
-    let q = ok-same _ _ (c .next) in
-    (_, join (l .spelt) (join (d .spelt) (join (p .spelt) (join (o .spelt) (rw append-assoc at (join (n .2) (subst (Spells (a .1) (Bare.closing ∷ [])) (λ j. q j .1) (c .spelt))))))),
-    subst (Writes _) (λ j. q j .0) (Writes.quote {e = d .value} (l .is) (p .is) (n .1)))
+    let q = ok-same _ _ (c .next) in (
+      _,
+      join (l .spelt) (join (d .spelt) (join (p .spelt) (join (o .spelt) (rw append-assoc at (join (n .2) (subst (Spells (a .1) (Bare.closing ∷ [])) (λ j. q j .1) (c .spelt))))))),
+      subst (Writes _) (λ j. q j .0) (Writes.quote {e = d .value} (l .is) (p .is) (n .1)),
+    )
 
 net-sound : (n : ℤ) (x : List ℕ) (ts us : List Tok) (f : Shape) → Number x n → finishOf (legsOf n) ts ≡ Ok (f, us) → (bs : List Bare) × Spells ts bs us × Writes (Bare.opening ∷ Bare.word (codes "house") ∷ Bare.word x ∷ Bare.word (codes "net") ∷ bs) f
 net-sound n x ts us f r h =
@@ -155,14 +157,14 @@ house-sound ts us vs b f e h =
     let k = step kind (n .next) in
     either-name (λ m. houseIn (n .value) m (k .left)) (k .is) (k .next)
     (λ i g.
-      let w : Spells (n .left) (Bare.word (codes "series") ∷ []) (k .left) = subst (λ t. Spells (n .left) (Bare.word t ∷ []) (k .left)) i (k .spelt) in
-      ended (join (n .spelt) w) (Writes.series (n .is)) g h)
+    let w : Spells (n .left) (Bare.word (codes "series") ∷ []) (k .left) = subst (λ t. Spells (n .left) (Bare.word t ∷ []) (k .left)) i (k .spelt) in
+    ended (join (n .spelt) w) (Writes.series (n .is)) g h)
     (λ r. either-name (λ m. houseIn (n .value) m (k .left)) r (k .next)
     (λ i g.
-      let w : Spells (n .left) (Bare.word (codes "net") ∷ []) (k .left) = subst (λ t. Spells (n .left) (Bare.word t ∷ []) (k .left)) i (k .spelt) in
-      let q = ok-same _ _ g in
-      let z = net-sound (n .value) (n .text) (k .left) us f (n .is) ((λ j. finishOf (q j .0) (q j .1)) ∙ h) in
-      (Bare.word (n .text) ∷ Bare.word (codes "net") ∷ z .0, join (n .spelt) (join w (z .1)), z .2))
+    let w : Spells (n .left) (Bare.word (codes "net") ∷ []) (k .left) = subst (λ t. Spells (n .left) (Bare.word t ∷ []) (k .left)) i (k .spelt) in
+    let q = ok-same _ _ g in
+    let z = net-sound (n .value) (n .text) (k .left) us f (n .is) ((λ j. finishOf (q j .0) (q j .1)) ∙ h) in
+    (Bare.word (n .text) ∷ Bare.word (codes "net") ∷ z .0, join (n .spelt) (join w (z .1)), z .2))
     (never-some _))
 
 pub form-sound : (ts us : List Tok) (f : Shape) → formOf ts ≡ Ok (f, us) → (bs : List Bare) × Spells ts bs us × Writes bs f
@@ -174,8 +176,8 @@ form-sound ts us f e =
     let n = step name (o .next) in
     let ws = n .left in
     let made : (k : List ℕ) → n .text ≡ k → Rest k ws us f → (bs : List Bare) × Spells ts bs us × Writes bs f = λ k i r.
-      let w : Spells (o .left) (Bare.word k ∷ []) ws = subst (λ t. Spells (o .left) (Bare.word t ∷ []) ws) i (n .spelt) in
-      (Bare.opening ∷ Bare.word k ∷ r .0, join (o .spelt) (join w (r .1)), r .2) in
+    let w : Spells (o .left) (Bare.word k ∷ []) ws = subst (λ t. Spells (o .left) (Bare.word t ∷ []) ws) i (n .spelt) in
+    (Bare.opening ∷ Bare.word k ∷ r .0, join (o .spelt) (join w (r .1)), r .2) in
     either-name (λ m. bodyOf m ws) (n .is) (n .next) (λ i g. made (codes "house") i (house-sound ws us vs b f g (a .3)))
     (λ e1. either-name (λ m. bodyOf m ws) e1 (n .next) (λ i g. made (codes "quote") i (quote-sound ws us vs b f g (a .3)))
     (λ e2. either-name (λ m. bodyOf m ws) e2 (n .next) (λ i g. made (codes "rest") i (rest-sound ws us vs b f g (a .3)))

@@ -1,1 +1,4 @@
 pub mod Names
+pub mod Limits
+pub mod Refusals
+pub mod Lists

@@ -1,9 +1,11 @@
--- How sheets and transcripts write a side, a class and a mechanism.
+-- How sheets and transcripts write a side, an edge, a class and a mechanism.
 use mathlib.Core.List.{List}
 use Prim.Native.Nat.{ℕ}
 use lib.Chars.{codes}
 use Rattle.market.specs.declared.names.Side.{Side}
 use Rattle.market.specs.declared.names.Side.the-variants.{Buy, Sell}
+use Rattle.market.specs.declared.names.Edge.{Edge}
+use Rattle.market.specs.declared.names.Edge.the-variants.{Bid, Offer}
 use Rattle.market.specs.declared.names.Class.{Class}
 use Rattle.market.specs.declared.names.Class.the-variants.{Customer, Other}
 use Rattle.market.specs.declared.names.Mechanism.{Mechanism}
@@ -12,6 +14,10 @@ use Rattle.market.specs.declared.names.Mechanism.the-variants.{Block, Facilita
 abbrev pub sideName : Side → List ℕ
 sideName Buy = codes "buy"
 sideName Sell = codes "sell"
+
+abbrev pub edgeName : Edge → List ℕ
+edgeName Bid = codes "bid"
+edgeName Offer = codes "offer"
 
 abbrev pub className : Class → List ℕ
 className Customer = codes "customer"

@@ -1,12 +1,19 @@
-// Sides, classes and mechanisms.
+// Sides, edges, classes and mechanisms.
 ghost use Rattle.std.specs.declared.option.Option.the-variants.{Some};
-ghost use Rattle.market.specs.Names.{sideName, className, mechanismName};
+ghost use Rattle.market.specs.Names.{sideName, edgeName, className, mechanismName};
 use std::fmt;
 
 #[derive(Clone, Copy, PartialEq, Eq)]
 pub enum Side {
     Buy,
     Sell,
+}
+
+// Which price of a leg a quote is.
+#[derive(Clone, Copy, PartialEq, Eq)]
+pub enum Edge {
+    Bid,
+    Offer,
 }
 
 // Whose an order is: a Priority Customer's, or anyone else's.
@@ -31,6 +38,17 @@ pub impl fmt::Display for Side as SideDisplay {
         match self {
             Side::Buy => write!(f, "buy"),
             Side::Sell => write!(f, "sell"),
+        }
+    }
+}
+
+pub impl fmt::Display for Edge as EdgeDisplay {
+    ghost shown = { λ e. Some (edgeName e) };
+
+    fn fmt<W: fmt::Write>(&self, f: &mut fmt::Formatter<W>) -> fmt::Result {
+        match self {
+            Edge::Bid => write!(f, "bid"),
+            Edge::Offer => write!(f, "offer"),
         }
     }
 }

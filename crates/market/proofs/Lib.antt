@@ -1,0 +1,4 @@
+pub mod Entries
+pub mod Tested
+pub mod Placing
+pub mod Paired
