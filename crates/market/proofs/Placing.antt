@@ -12,13 +12,13 @@ use Rattle.std.specs.Finite.{nth}
 use Rattle.std.specs.Options.{okOr}
 use Rattle.std.proofs.shelf.Lists.{length-map, getD-map, map-set}
 use Rattle.std.proofs.shelf.Maps.{nth-getD, nth-past}
-use Rattle.std.proofs.shelf.Tests.{le-leb, lt-leb, and-right}
+use Rattle.std.proofs.shelf.Tests.{leb-true, leb-false, and-parts, true≢false}
 use Rattle.std.specs.declared.option.Option.the-variants.{Some, None}
 use Rattle.std.specs.declared.result.Result.the-variants.{Ok, Err}
 use Rattle.market.specs.declared.entry.Entry.{Entry}
 use Rattle.market.specs.declared.refusal.Refusal.{Refusal}
 use Rattle.market.specs.declared.refusal.Refusal.the-variants.{NotTakable}
-use Rattle.market.specs.Lists.{placed, entryAt, takable, takeAnswer, afterTake, lowered, changeAt}
+use Rattle.market.specs.Lists.{placed, entryAt, upTo, takable, takeAnswer, afterTake, lowered, changeAt}
 
 pub placed-out : {X : Type 0} (xs : List X) (place : ℕ) → (place ≡ 0) ⊎ (length xs < place) → placed xs place ≡ None
 placed-out xs zero h = refl
@@ -44,57 +44,57 @@ take-some es place n h = (rw h refl, rw h refl)
 pub untakable-out : (es : List Entry) (place n : ℕ) → (place ≡ 0) ⊎ (length es < place) → takable (placed es place) n ≡ false
 untakable-out es place n h = rw (placed-out es place h) refl
 
--- an entry of another size
-pub untakable-size : (es : List Entry) (place n : ℕ) (e : Entry) → 0 < place → place ≤ length es → e ≡ getD es (place - 1) e → (n ≡ 0) ⊎ (e .size < n) → takable (placed es place) n ≡ false
-untakable-size es place n e lo hi r h =
-    rw (placed-in es place e lo hi, ← r) (⊎-elim (λ z. ap (λ k. leb 1 k && leb k (e .size)) z) (λ l. ap (λ t. leb 1 n && t) (lt-leb n (e .size) l) ∙ and-right (leb 1 n) false refl) h)
+not-up-to : (most n : ℕ) → upTo most n ≡ false → (n ≡ 0) ⊎ (most < n)
+not-up-to most n e = go (leb 1 n) (leb n most) refl refl e
+  where
+    go : (a b : Bool) → leb 1 n ≡ a → leb n most ≡ b → a && b ≡ false → (n ≡ 0) ⊎ (most < n)
+    go true true p q e = absurd (true≢false e)
+    go true false p q e = inr (leb-false n most q)
+    go false b p q e = inl (let k = leb-false 1 n p in omega arith)
 
-pub takable-size : (es : List Entry) (place n : ℕ) (e : Entry) → 0 < place → place ≤ length es → e ≡ getD es (place - 1) e → 0 < n → n ≤ e .size → takable (placed es place) n ≡ true
-takable-size es place n e lo hi r p q = rw (placed-in es place e lo hi, ← r, le-leb 1 n p, le-leb n (e .size) q) refl
+pub up-to : (most n : ℕ) → upTo most n ≡ true → (0 < n) × (n ≤ most)
+up-to most n e = let b = and-parts (leb 1 n) (leb n most) e in (leb-true 1 n (b .0), leb-true n most (b .1))
 
--- The same, of entries that are parts of other values, as orders: xs has n elements, and f reads the entry of each.
-abbrev pub Outside : ℕ → ℕ → Type 0
-Outside n place = (place ≡ 0) ⊎ ((place ≡ 0 → ⊥) × (n < place))
-
+-- Entries that are parts of other values, as orders: xs has n elements, and f reads the entry of each.
 module _ {X : Type 0} (f : X → Entry) (xs : List X) (n : ℕ) (long : n ≡ length xs) where
-  outside : (place : ℕ) → Outside n place → (place ≡ 0) ⊎ (length (map f xs) < place)
-  outside place h = let e = length-map xs f in ⊎-elim inl (λ l. inr (omega (arith, l .1))) h
+  outside : (place : ℕ) → upTo n place ≡ false → (place ≡ 0) ⊎ (length (map f xs) < place)
+  outside place h = let e = length-map xs f in ⊎-elim inl (λ l. inr (omega (arith, l))) (not-up-to n place h)
 
-  pub entry-out : (place : ℕ) → Outside n place → Err NotTakable ≡ entryAt (map f xs) place
+  pub entry-out : (place : ℕ) → upTo n place ≡ false → Err NotTakable ≡ entryAt (map f xs) place
   entry-out place h = sym (ap (λ o. okOr o NotTakable) (placed-out (map f xs) place (outside place h)))
 
-  pub entry-in : (place : ℕ) (x : X) → (place ≡ 0 → ⊥) → place ≤ n → x ≡ getD xs (place - 1) x → Ok (f x) ≡ entryAt (map f xs) place
-  entry-in place x lo hi r =
-      let k : 0 < place = omega (arith, lo) in
-      let e = length-map xs f in
-      let i : place - 1 < length xs = omega arith in
-      let g : getD (map f xs) (place - 1) (f x) ≡ f x = getD-map f xs (place - 1) x (f x) i ∙ ap f (sym r) in
-      sym (ap (λ o. okOr o NotTakable) (placed-in (map f xs) place (f x) k (omega arith) ∙ ap Some g))
-
-  pub take-out : (place m : ℕ) → Outside n place → (Err NotTakable ≡ takeAnswer (map f xs) place m) × (map f xs ≡ afterTake (map f xs) place m)
+  pub take-out : (place m : ℕ) → upTo n place ≡ false → (Err NotTakable ≡ takeAnswer (map f xs) place m) × (map f xs ≡ afterTake (map f xs) place m)
   take-out place m h =
       let r = take-none (map f xs) place m (untakable-out (map f xs) place m (outside place h)) in
       (sym (r .0), sym (r .1))
 
-  module _ (place : ℕ) (x : X) (lo : place ≡ 0 → ⊥) (hi : place ≤ n) (r : x ≡ getD xs (place - 1) x) where
-    here : f x ≡ getD (map f xs) (place - 1) (f x)
-    here =
-        let k : 0 < place = omega (arith, lo) in
-        let i : place - 1 < length xs = omega arith in
-        sym (getD-map f xs (place - 1) x (f x) i ∙ ap f (sym r))
-
-    pub take-refused : (m : ℕ) → Outside (f x .size) m → (Err NotTakable ≡ takeAnswer (map f xs) place m) × (map f xs ≡ afterTake (map f xs) place m)
-    take-refused m h =
+  module _ (place : ℕ) (x : X) (inside : upTo n place ≡ true) (r : x ≡ getD xs (place - 1) x) where
+    standing : placed (map f xs) place ≡ Some (f x)
+    standing =
+        let b = up-to n place inside in
+        let lo = b .0 in
+        let hi = b .1 in
         let e = length-map xs f in
-        let w : (m ≡ 0) ⊎ (f x .size < m) = ⊎-elim inl (λ l. inr (l .1)) h in
-        let t = take-none (map f xs) place m (untakable-size (map f xs) place m (f x) (omega (arith, lo)) (omega arith) here w) in
+        let i : place - 1 < length xs = omega arith in
+        placed-in (map f xs) place (f x) lo (omega arith) ∙ ap Some (getD-map f xs (place - 1) x (f x) i ∙ ap f (sym r))
+
+    pub entry-in : Ok (f x) ≡ entryAt (map f xs) place
+    entry-in = sym (ap (λ o. okOr o NotTakable) standing)
+
+    pub take-refused : (m : ℕ) → upTo (f x .size) m ≡ false → (Err NotTakable ≡ takeAnswer (map f xs) place m) × (map f xs ≡ afterTake (map f xs) place m)
+    take-refused m h =
+        let t = take-none (map f xs) place m (ap (λ o. takable o m) standing ∙ h) in
         (sym (t .0), sym (t .1))
 
     -- y is x with m contracts less
-    pub take-done : (m : ℕ) (y : X) → (m ≡ 0 → ⊥) → m ≤ f x .size → f y ≡ lowered m (f x) → (Ok tt ≡ takeAnswer (map f xs) place m) × (map f (set xs (place - 1) y) ≡ afterTake (map f xs) place m)
-    take-done m y p q low =
+    pub take-done : (m : ℕ) (y : X) → upTo (f x .size) m ≡ true → f y ≡ lowered m (f x) → (Ok tt ≡ takeAnswer (map f xs) place m) × (map f (set xs (place - 1) y) ≡ afterTake (map f xs) place m)
+    take-done m y h low =
+        let b = up-to n place inside in
+        let lo = b .0 in
+        let hi = b .1 in
         let e = length-map xs f in
-        let k : 0 < place = omega (arith, lo) in
+        let j : place - 1 < length xs = omega arith in
         let i : place - 1 < length (map f xs) = omega arith in
-        let t = take-some (map f xs) place m (takable-size (map f xs) place m (f x) (omega arith) (omega arith) here (omega (arith, p)) q) in
+        let here : f x ≡ getD (map f xs) (place - 1) (f x) = sym (getD-map f xs (place - 1) x (f x) j ∙ ap f (sym r)) in
+        let t = take-some (map f xs) place m (ap (λ o. takable o m) standing ∙ h) in
         (sym (t .0), map-set f xs (place - 1) y ∙ ap (set (map f xs) (place - 1)) low ∙ sym (change-set (lowered m) (map f xs) (place - 1) (f x) i here) ∙ sym (t .1))

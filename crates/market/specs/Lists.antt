@@ -40,10 +40,14 @@ placed xs (suc i) = nth xs i
 abbrev pub entryAt : List Entry → ℕ → Result Entry Refusal
 entryAt es place = okOr (placed es place) NotTakable
 
+-- from 1 to the most
+abbrev pub upTo : ℕ → ℕ → Bool
+upTo most n = leb 1 n && leb n most
+
 -- n contracts can be taken of an entry: at least one, at most its size
 abbrev pub takable : Option Entry → ℕ → Bool
 takable None n = false
-takable (Some e) n = leb 1 n && leb n (e .size)
+takable (Some e) n = upTo (e .size) n
 
 -- what a take of n at a place answers
 abbrev pub takeAnswer : List Entry → ℕ → ℕ → Result (Unit {0}) Refusal

@@ -6,6 +6,8 @@ ghost use Rattle.market.specs.Limits.{lowestPrice, highestPrice, mostSize};
 use super::names::Class;
 use super::names::Side;
 
+pub mod ops;
+
 // Interest at a price, in cents, for a number of contracts.
 #[derive(Clone, Copy)]
 pub struct Entry {

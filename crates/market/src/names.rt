@@ -1,4 +1,4 @@
-// Sides, edges, classes and mechanisms.
+// Sides, edges, kinds, classes and mechanisms.
 ghost use Rattle.std.specs.declared.option.Option.the-variants.{Some};
 ghost use Rattle.market.specs.Names.{sideName, edgeName, className, mechanismName};
 use std::fmt;
@@ -14,6 +14,13 @@ pub enum Side {
 pub enum Edge {
     Bid,
     Offer,
+}
+
+// What is traded: one series, or a net of legs.
+#[derive(Clone, Copy, PartialEq, Eq)]
+pub enum Kind {
+    Series,
+    Net,
 }
 
 // Whose an order is: a Priority Customer's, or anyone else's.

@@ -1,0 +1,3 @@
+// Pools and depths: the resting book, two pools as one, the away board, and the depth that lists nothing.
+pub mod book;
+mod within;
