@@ -1,3 +1,5 @@
 pub mod Limits
 pub mod Books
 pub mod Resting
+pub mod Away
+pub mod Pairs
