@@ -9,7 +9,7 @@ use lib.Signed.{leZ, nonNeg, _≤ℤ_}
 use mir.Syntax.{w32, w64}
 use mir.Val.{SFits, ofZ, toZ, Fits}
 use Rattle.std.proofs.shelf.Signed.{toZ-ofZ}
-use Rattle.std.proofs.shelf.Tests.{and-parts, leb-true, false≢true}
+use Rattle.std.proofs.shelf.Tests.{and-parts, and-from, leb-true, false≢true}
 use Rattle.market.specs.declared.entry.Entry.{Entry}
 use Rattle.market.specs.declared.names.Side.{Side}
 use Rattle.market.specs.declared.names.Class.{Class}
@@ -40,6 +40,13 @@ module _ (l h : ℕ) (z : ℤ) (fits : SFits w64 z) (ok : inRange (pos l) (pos h
       let e = cast-abs in
       let k = narrow l h z ok .high in
       (subst P (sym (toZ-ofZ w64 z fits)) (narrow l h z ok .whole), record { fits = omega arith })
+
+holds : (b : Bool) → T b → b ≡ true
+holds true h = refl
+holds false h = absurd h
+
+pub in-range : (low high z : ℤ) → low ≤ℤ z → z ≤ℤ high → inRange low high z ≡ true
+in-range low high z a b = and-from (leZ low z) (leZ z high) (holds (leZ low z) (a .le)) (holds (leZ z high) (b .le))
 
 -- a price within the limits is not cut
 pub cut-none : (z : ℤ) → inRange lowestPrice highestPrice z ≡ true → cutPrice z ≡ z
