@@ -7,7 +7,7 @@ use Rattle.market.specs.declared.names.Side.{Side}
 use Rattle.market.specs.declared.names.Edge.{Edge}
 use Rattle.market.specs.declared.names.Class.{Class}
 use Rattle.market.specs.declared.names.Mechanism.{Mechanism}
-use Rattle.forms.specs.declared.form.Leg.{Leg}
+use Rattle.market.specs.declared.names.Leg.{Leg}
 use Rattle.forms.specs.declared.form.Response.{Response}
 use Rattle.forms.specs.declared.form.Market.the-variants.{Series, Net}
 use Rattle.forms.specs.declared.form.Form.{Form}

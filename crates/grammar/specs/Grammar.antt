@@ -16,7 +16,7 @@ use Rattle.words.specs.Bytes.{wordByte, begins}
 use Rattle.words.specs.Number.{Number}
 use Rattle.words.specs.Place.{Placed}
 use Rattle.market.specs.declared.names.Edge.{Edge}
-use Rattle.forms.specs.declared.form.Leg.{Leg}
+use Rattle.market.specs.declared.names.Leg.{Leg}
 use Rattle.forms.specs.Shapes.{Shape}
 use Rattle.forms.specs.Shapes as shapes
 

@@ -16,7 +16,7 @@ use Rattle.market.specs.declared.refusal.Refusal.the-variants.{NotTakable}
 use Rattle.market.specs.Limits.{mostSize}
 use Rattle.market.specs.Lists.{upTo, takeAnswer, afterTake, lowered}
 use Rattle.market.proofs.Placing.{up-to}
-use Rattle.legs.specs.declared.leg.Leg.{Leg}
+use Rattle.legs.specs.declared.leg.LegQuotes.{LegQuotes}
 use Rattle.legs.specs.Model.{LegHeld, netSize, implied, listed, takenLeg, canTake, takenLegs, takenAnswer}
 use Rattle.legs.specs.Legs.{legHeld}
 use Rattle.legs.proofs.Taken.{implied-taken, implied-other}
@@ -42,7 +42,7 @@ front-put (suc n) [] (x ∷ xs) e = absurd (omega arith)
 front-put (suc n) (y ∷ new) (x ∷ xs) e = ap (λ ys. y ∷ ys) (front-put n new xs (omega arith))
 
 -- the legs after those in front, k = n of them, are replaced
-pub put-held : (f : LegHeld → LegHeld) (n k : ℕ) (new ls : List Leg) → k ≡ n → map legHeld new ≡ map f (map legHeld (take k ls)) → map legHeld (take n (new ++ drop k ls)) ≡ map f (map legHeld (take n ls))
+pub put-held : (f : LegHeld → LegHeld) (n k : ℕ) (new ls : List LegQuotes) → k ≡ n → map legHeld new ≡ map f (map legHeld (take k ls)) → map legHeld (take n (new ++ drop k ls)) ≡ map f (map legHeld (take n ls))
 put-held f n k new ls same e =
     let a = length-map new legHeld in
     let b = length-map (map legHeld (take n ls)) f in
@@ -51,7 +51,7 @@ put-held f n k new ls same e =
     let l = ap length g in
     ap (λ m. map legHeld (take n (new ++ drop m ls))) same ∙ ap (map legHeld) (front-put n new ls (omega arith)) ∙ g
 
-pub put-length : (f : LegHeld → LegHeld) (k : ℕ) (new ls : List Leg) → map legHeld new ≡ map f (map legHeld (take k ls)) → length (new ++ drop k ls) ≡ length ls
+pub put-length : (f : LegHeld → LegHeld) (k : ℕ) (new ls : List LegQuotes) → map legHeld new ≡ map f (map legHeld (take k ls)) → length (new ++ drop k ls) ≡ length ls
 put-length f k new ls e =
     let a = length-map new legHeld in
     let b = length-map (map legHeld (take k ls)) f in
@@ -62,7 +62,7 @@ put-length f k new ls e =
     let w = ap length (take-append-drop k ls) in
     omega arith
 
-pub ratios : (ls : List Leg) → All (λ l. 1 ≤ l .ratio) (map legHeld ls)
+pub ratios : (ls : List LegQuotes) → All (λ l. 1 ≤ l .ratio) (map legHeld ls)
 ratios [] = tt
 ratios (l ∷ ls) = (l .low, ratios ls)
 

@@ -13,7 +13,7 @@ use Rattle.std.proofs.shelf.Tests.{and-parts}
 use Rattle.market.specs.declared.refusal.Refusal.{Refusal}
 use Rattle.market.specs.declared.refusal.Refusal.the-variants.{OutOfLimits}
 use Rattle.market.specs.declared.names.Edge.{Edge}
-use Rattle.legs.specs.declared.leg.Leg.{Leg}
+use Rattle.legs.specs.declared.leg.LegQuotes.{LegQuotes}
 use Rattle.legs.specs.Model.{SideHeld, LegHeld}
 use Rattle.legs.specs.Legs.{legHeld}
 use Rattle.market.specs.Fields.{inRange, natOf}
@@ -29,7 +29,7 @@ take-set-in (suc n) [] i y = refl
 take-set-in (suc n) (x ∷ xs) zero y = refl
 take-set-in (suc n) (x ∷ xs) (suc i) y = ap (λ ys. x ∷ ys) (take-set-in n xs i y)
 
-module _ (n : ℕ) (ls : List Leg) (leg price : ℤ) (zs : List ℤ) (whole : n ≤ length ls) where
+module _ (n : ℕ) (ls : List LegQuotes) (leg price : ℤ) (zs : List ℤ) (whole : n ≤ length ls) where
   abbrev held : List LegHeld
   held = map legHeld (take n ls)
 
@@ -45,7 +45,7 @@ module _ (n : ℕ) (ls : List Leg) (leg price : ℤ) (zs : List ℤ) (whole : n 
     pub leg-narrow : Narrow 1 n leg
     leg-narrow = narrow 1 n leg (and-parts (inRange (pos 1) (pos n) leg) (priceOk price && sizesOk zs) yea .0)
 
-    pub quote-done : (edge : Edge) (i : ℕ) (x y : Leg) → i ≡ natOf leg - 1 → x ≡ getD ls i x → legHeld y ≡ quotedLeg edge (quotedSide price zs) (legHeld x) → (Ok tt ≡ quoteAnswer held leg price zs) × (map legHeld (take n (set ls i y)) ≡ afterQuote held leg edge price zs)
+    pub quote-done : (edge : Edge) (i : ℕ) (x y : LegQuotes) → i ≡ natOf leg - 1 → x ≡ getD ls i x → legHeld y ≡ quotedLeg edge (quotedSide price zs) (legHeld x) → (Ok tt ≡ quoteAnswer held leg price zs) × (map legHeld (take n (set ls i y)) ≡ afterQuote held leg edge price zs)
     quote-done edge i x y at r e =
         let k = leg-narrow in
         let m = long in

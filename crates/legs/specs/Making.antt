@@ -8,6 +8,7 @@ use lib.ListN.{length}
 use Rattle.std.specs.declared.result.Result.{Result}
 use Rattle.std.specs.declared.result.Result.the-variants.{Ok, Err}
 use Rattle.market.specs.declared.names.Side.{Side}
+use Rattle.market.specs.declared.names.Leg.{Leg}
 use Rattle.market.specs.declared.refusal.Refusal.{Refusal}
 use Rattle.market.specs.declared.refusal.Refusal.the-variants.{OutOfLimits}
 use Rattle.market.specs.Lists.{allOf}
@@ -20,16 +21,16 @@ use Rattle.legs.specs.Fields.{ratioOk}
 abbrev pub freshLeg : Side → ℤ → LegHeld
 freshLeg s ratio = record { side = s; ratio = natOf ratio; bid = bare; offer = bare }
 
-abbrev pub partOk : (Side × ℤ) → Bool
-partOk p = ratioOk (p .1)
+abbrev pub partOk : Leg → Bool
+partOk p = ratioOk (p .ratio)
 
-abbrev pub partLeg : (Side × ℤ) → LegHeld
-partLeg p = freshLeg (p .0) (p .1)
+abbrev pub partLeg : Leg → LegHeld
+partLeg p = freshLeg (p .side) (p .ratio)
 
 -- not too few legs and not too many, with ratios within their limits
-abbrev pub partsOk : List (Side × ℤ) → Bool
+abbrev pub partsOk : List Leg → Bool
 partsOk ps = (leb leastLegs (length ps) && leb (length ps) mostLegs) && allOf partOk ps
 
 -- what making a legs market answers
-abbrev pub newAnswer : List (Side × ℤ) → Result (List LegHeld) Refusal
+abbrev pub newAnswer : List Leg → Result (List LegHeld) Refusal
 newAnswer ps = cond (partsOk ps) (Ok (map partLeg ps)) (Err OutOfLimits)

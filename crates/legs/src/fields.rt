@@ -10,7 +10,7 @@ ghost use Rattle.legs.specs.Making.{partsOk};
 use super::pool::MOST_LEGS;
 use super::quote::ops::MOST_QUOTES;
 use market::fields::in_range;
-use market::names::Side;
+use market::names::Leg;
 
 // How many legs a net has at least.
 pub const LEAST_LEGS: usize = 2;
@@ -80,14 +80,14 @@ pub(crate) fn quote_ok(count: usize, leg: i64, price: i64, sizes: &[i64]) -> boo
 }
 
 // Sides and ratios of the legs of a net.
-pub(crate) fn parts_ok(parts: &[(Side, i64)]) -> bool
+pub(crate) fn parts_ok(parts: &[Leg]) -> bool
     ensures { λ r. ⌜ r ≡ partsOk (now (parts .entry)) ⌝ }
 {
     if !few_legs(parts.len()) {
         return false;
     }
     for part in parts {
-        if !ratio_ok(part.1) {
+        if !ratio_ok(part.ratio) {
             return false;
         }
     }

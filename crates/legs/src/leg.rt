@@ -8,7 +8,7 @@ pub mod ops;
 
 // How often the leg is bought or sold in the net, and what is bid and offered for it.
 #[derive(Clone, Copy)]
-pub struct Leg {
+pub struct LegQuotes {
     side: Side,
     ratio: u32,
     bid: LegSide,

@@ -3,7 +3,7 @@ ghost use mathlib.Core.Path.{_≡_};
 ghost use Prim.Native.Nat.{ℕ, _≤_};
 ghost use lib.ListN.{length};
 ghost use Rattle.legs.specs.Limits.{leastLegs, mostLegs};
-use super::leg::Leg;
+use super::leg::LegQuotes;
 
 pub mod ops;
 mod sums;
@@ -14,7 +14,7 @@ pub const MOST_LEGS: usize = 4;
 // Legs; what lies past the count is not used.
 #[derive(Drop)]
 pub struct LegsMarket {
-    legs: [Leg; MOST_LEGS],
+    legs: [LegQuotes; MOST_LEGS],
     count: usize,
     ghost low: { leastLegs ≤ count },
     ghost high: { count ≤ mostLegs },

@@ -1,6 +1,6 @@
-// Sides, edges, kinds, classes and mechanisms.
+// Sides, edges, legs, kinds, classes and mechanisms.
 ghost use Rattle.std.specs.declared.option.Option.the-variants.{Some};
-ghost use Rattle.market.specs.Names.{sideName, edgeName, className, mechanismName};
+ghost use Rattle.market.specs.Names.{sideName, edgeName, legText, className, mechanismName};
 use std::fmt;
 
 #[derive(Clone, Copy, PartialEq, Eq)]
@@ -14,6 +14,13 @@ pub enum Side {
 pub enum Edge {
     Bid,
     Offer,
+}
+
+// A leg of a net: how often it is bought or sold in it.
+#[derive(Clone, Copy)]
+pub struct Leg {
+    pub side: Side,
+    pub ratio: i64,
 }
 
 // What is traded: one series, or a net of legs.
@@ -57,6 +64,16 @@ pub impl fmt::Display for Edge as EdgeDisplay {
             Edge::Bid => write!(f, "bid"),
             Edge::Offer => write!(f, "offer"),
         }
+    }
+}
+
+pub impl fmt::Display for Leg as LegDisplay {
+    ghost shown = { λ l. Some (legText l) };
+
+    fn fmt<W: fmt::Write>(&self, f: &mut fmt::Formatter<W>) -> fmt::Result {
+        let side = self.side;
+        let ratio = self.ratio;
+        write!(f, "({side} {ratio})")
     }
 }
 

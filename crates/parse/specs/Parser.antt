@@ -23,7 +23,7 @@ use Rattle.words.specs.Tokens.{Tok, opening, closing, word, badByte, longWord, 
 use Rattle.words.specs.Place.{Placed}
 use Rattle.market.specs.declared.names.Edge.{Edge}
 use Rattle.market.specs.declared.names.Edge.the-variants.{Bid, Offer}
-use Rattle.forms.specs.declared.form.Leg.{Leg}
+use Rattle.market.specs.declared.names.Leg.{Leg}
 use Rattle.parse.specs.declared.names.Kind.{Kind}
 use Rattle.parse.specs.declared.names.Kind.the-variants as kinds
 use Rattle.parse.specs.declared.names.Name.{Name}

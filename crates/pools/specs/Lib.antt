@@ -3,3 +3,4 @@ pub mod Books
 pub mod Resting
 pub mod Away
 pub mod Pairs
+pub mod Sheets

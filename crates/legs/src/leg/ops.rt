@@ -12,17 +12,17 @@ ghost use Rattle.legs.specs.Making.{freshLeg};
 ghost use Rattle.legs.specs.Quoting.{quotedLeg};
 ghost use Rattle.legs.specs.Legs.{legHeld};
 use super::super::legside::LegSide;
-use super::Leg;
+use super::LegQuotes;
 use market::names::Edge;
 use market::names::Side;
 
-impl Leg {
+impl LegQuotes {
     // A leg without quotes.
-    pub(crate) fn new(side: Side, ratio: i64) -> Leg
+    pub(crate) fn new(side: Side, ratio: i64) -> LegQuotes
         requires { ⌜ ratioOk ratio ≡ true ⌝ }
         ensures { λ r. ⌜ legHeld r ≡ freshLeg side ratio ⌝ }
     {
-        Leg {
+        LegQuotes {
             side,
             ratio: ratio as u32,
             bid: LegSide::new(),

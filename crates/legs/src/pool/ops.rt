@@ -11,7 +11,7 @@ ghost use Rattle.legs.specs.Making.{newAnswer};
 ghost use Rattle.legs.specs.Held.{legsHeld, answerHeld};
 use super::super::fields::parts_ok;
 use super::super::fields::quote_ok;
-use super::super::leg::Leg;
+use super::super::leg::LegQuotes;
 use super::super::legside::LegSide;
 use super::LegsMarket;
 use super::MOST_LEGS;
@@ -21,6 +21,7 @@ use market::depth::Pool;
 use market::entry::Entry;
 use market::names::Class;
 use market::names::Edge;
+use market::names::Leg;
 use market::names::Side;
 use market::refusal::Refusal;
 
@@ -34,13 +35,13 @@ fn can_take(n: u32, size: u32) -> bool
 impl LegsMarket {
     // The legs of a net, each with its side and its ratio; refused where there are too few or too many, or a ratio is
     // outside its limits.
-    pub fn new(parts: &[(Side, i64)]) -> Result<LegsMarket, Refusal>
+    pub fn new(parts: &[Leg]) -> Result<LegsMarket, Refusal>
         ensures { λ r. ⌜ answerHeld r ≡ newAnswer (now (parts .entry)) ⌝ }
     {
         if !parts_ok(parts) {
             return Err(Refusal::OutOfLimits);
         }
-        let mut legs = [Leg::new(Side::Buy, 1); MOST_LEGS];
+        let mut legs = [LegQuotes::new(Side::Buy, 1); MOST_LEGS];
         sums::set_up(&mut legs, parts);
         Ok(LegsMarket {
             legs,

@@ -13,12 +13,13 @@ ghost use Rattle.market.specs.Lists.{allOf};
 ghost use Rattle.legs.specs.Limits.{mostLegs};
 ghost use Rattle.legs.specs.Making.{partOk, partLeg};
 ghost use Rattle.legs.specs.Legs.{legHeld};
-use super::super::leg::Leg;
+use super::super::leg::LegQuotes;
 use market::limits::MOST_SIZE;
+use market::names::Leg;
 use market::names::Side;
 
 // The price of an implied order.
-pub(crate) fn price(legs: &[Leg], side: Side) -> i32
+pub(crate) fn price(legs: &[LegQuotes], side: Side) -> i32
     requires { ⌜ length (now legs) ≤ mostLegs ⌝ }
     ensures value { λ r. ⌜ r ≡ netPrice side (map legHeld (now (legs .entry))) ⌝ }
     ensures low { λ r. ⌜ lowestPrice ≤ℤ r ⌝ }
@@ -32,7 +33,7 @@ pub(crate) fn price(legs: &[Leg], side: Side) -> i32
 }
 
 // How many implied orders every leg has contracts for.
-pub(crate) fn size(legs: &[Leg], side: Side) -> u32
+pub(crate) fn size(legs: &[LegQuotes], side: Side) -> u32
     requires { ⌜ 0 < length (now legs) ⌝ }
     ensures value { λ r. ⌜ r ≡ netSize side (map legHeld (now (legs .entry))) ⌝ }
     ensures few { λ r. ⌜ r ≤ mostSize ⌝ }
@@ -45,7 +46,7 @@ pub(crate) fn size(legs: &[Leg], side: Side) -> u32
 }
 
 // Takes the contracts of n implied orders from every leg.
-pub(crate) fn take(legs: &mut [Leg], side: Side, n: u32)
+pub(crate) fn take(legs: &mut [LegQuotes], side: Side, n: u32)
     requires { ⌜ All (λ l. n ≤ legSize side l) (map legHeld (now legs)) ⌝ }
     ensures { λ _. ⌜ map legHeld (now (legs .exit)) ≡ map (takenLeg side n) (map legHeld (now (legs .entry))) ⌝ }
 {
@@ -55,13 +56,13 @@ pub(crate) fn take(legs: &mut [Leg], side: Side, n: u32)
 }
 
 // Makes the first legs out of sides and ratios.
-pub(crate) fn set_up(legs: &mut [Leg], parts: &[(Side, i64)])
+pub(crate) fn set_up(legs: &mut [LegQuotes], parts: &[Leg])
     requires long { ⌜ length (now parts) ≤ length (now legs) ⌝ }
     requires each { ⌜ allOf partOk (now parts) ≡ true ⌝ }
     ensures { λ _. ⌜ map legHeld (take (length (now (parts .entry))) (now (legs .exit))) ≡ map partLeg (now (parts .entry)) ⌝ }
 {
     for i in 0..parts.len() {
-        let (side, ratio) = parts[i];
-        legs[i] = Leg::new(side, ratio);
+        let part = parts[i];
+        legs[i] = LegQuotes::new(part.side, part.ratio);
     }
 }

@@ -6,14 +6,14 @@ use lib.ListN.{length, getD, set, take, drop}
 use Rattle.std.proofs.shelf.Lists.{length-map, getD-map, map-set}
 use Rattle.std.proofs.shelf.Elements.{all-getD}
 use Rattle.market.specs.declared.names.Side.{Side}
-use Rattle.legs.specs.declared.leg.Leg.{Leg}
+use Rattle.legs.specs.declared.leg.LegQuotes.{LegQuotes}
 use Rattle.legs.specs.Model.{LegHeld, legSize, takenLeg}
 use Rattle.legs.specs.Legs.{legHeld}
 use Rattle.legs.proofs.Each.{mapping-here, mapping-more, mapping-all}
 use Rattle.legs.proofs.pool.sums.take.Needs as need
 
 -- the leg at a turn, as it was
-here : (s : Side) (n : ℕ) (was legs : List Leg) (i : ℕ) (x : Leg) → map legHeld legs ≡ map (takenLeg s n) (take i (map legHeld was)) ++ drop i (map legHeld was) → length legs ≡ length was → i < length was → legHeld (getD legs i x) ≡ getD (map legHeld was) i (legHeld x)
+here : (s : Side) (n : ℕ) (was legs : List LegQuotes) (i : ℕ) (x : LegQuotes) → map legHeld legs ≡ map (takenLeg s n) (take i (map legHeld was)) ++ drop i (map legHeld was) → length legs ≡ length was → i < length was → legHeld (getD legs i x) ≡ getD (map legHeld was) i (legHeld x)
 here s n was legs i x inv k t =
     let m = length-map was legHeld in
     sym (getD-map legHeld legs i x (legHeld x) (omega arith))

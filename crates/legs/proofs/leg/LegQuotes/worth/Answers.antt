@@ -2,7 +2,7 @@ use mathlib.Core.Path.{_≡_, ap, _∙_}
 use Prim.Native.Nat.{_*_}
 use Rattle.legs.specs.Model.{SideHeld}
 use Rattle.legs.proofs.Amounts.{worth-le}
-use Rattle.legs.proofs.leg.Leg.worth.Needs as need
+use Rattle.legs.proofs.leg.LegQuotes.worth.Needs as need
 
 pub returns : need.returns
 returns c = record {
