@@ -24,7 +24,7 @@ pub trait Depth {
         ensures { λ r. ⌜ r ≡ entryAt (entries (now (self .entry))) place ⌝ };
 }
 
-// A depth from which contracts can also be taken.
+// A depth that contracts can be taken from.
 pub trait Pool: Depth {
     // What the pool becomes where n contracts are taken at a place: before, place, n, after.
     ghost took: { Self → ℕ → ℕ → Self → Type 0 };

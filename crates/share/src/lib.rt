@@ -110,8 +110,8 @@ fn fill<C: Claim>(amount: u32, total: u32, left: u32, claims: &[C], out: &mut [u
     }
 }
 
-// Shares an amount out over the claims in line: each gets its part rounded down, and what is left goes one contract
-// each to the first that want one more. Refused, and nothing written, where a claim is outside its limits, the place
+// Shares an amount out over the claims in line: each gets its part, rounded down, and the contracts left over go singly
+// to those in front that want one more. Refused, and nothing written, where a claim is outside its limits, the place
 // numbers do not rise, the claims want less than the amount, or `out` has not one count for each claim.
 pub fn share_out<C: Claim>(amount: u32, claims: &[C], out: &mut [u32]) -> Result<(), Refusal>
     ensures answer { λ r. ⌜ r ≡ shareAnswer amount (map wanted (now (claims .entry))) (map standing (now (claims .entry))) (length (now (out .entry))) ⌝ }

@@ -25,6 +25,9 @@ use market::names::Leg;
 use market::names::Side;
 use market::refusal::Refusal;
 
+// The implied buy and the implied sell.
+const IMPLIED_ORDERS: usize = 2;
+
 // Whether n orders can be taken of so many.
 fn can_take(n: u32, size: u32) -> bool
     ensures { λ r. ⌜ r ≡ upTo size n ⌝ }
@@ -100,7 +103,7 @@ pub impl Depth for LegsMarket as LegsDepth {
     ghost entries = { λ m. listed (legsHeld m) };
 
     fn count(&self) -> usize {
-        2
+        IMPLIED_ORDERS
     }
 
     fn entry(&self, place: usize) -> Result<Entry, Refusal> {

@@ -2,6 +2,7 @@
 ghost use mathlib.Core.Path.{_≡_};
 ghost use mathlib.Core.Bool.{true};
 ghost use mathlib.Core.List.{List, []};
+ghost use Rattle.std.specs.Of.Vec.{vec-len};
 ghost use Rattle.std.specs.Vec.{made};
 ghost use Rattle.market.specs.declared.names.Class.the-variants.{Other};
 ghost use Rattle.market.specs.Making.{entryOf};
@@ -46,6 +47,13 @@ impl AwayBoard {
         Ok(AwayBoard { shown })
     }
 
+    // How many entries the board shows.
+    fn listed(&self) -> usize
+        ensures { λ r. ⌜ r ≡ vec-len (now (self .entry) .shown) ⌝ }
+    {
+        self.shown.len()
+    }
+
     // Appends a price of another market. Refused where it is outside its limits, or the board is full.
     pub fn away(&mut self, side: Side, price: i64) -> Result<(), Refusal>
         ensures answer { λ r. ⌜ r ≡ awayAnswer (boardHeld (now (self .entry))) price ⌝ }
@@ -54,7 +62,7 @@ impl AwayBoard {
         if !away_ok(price) {
             return Err(Refusal::OutOfLimits);
         }
-        if self.shown.len() >= MOST_AWAY {
+        if self.listed() >= MOST_AWAY {
             return Err(Refusal::NoSpace);
         }
         let entry = away_entry(side, price);
@@ -67,11 +75,11 @@ pub impl Depth for AwayBoard as AwayDepth {
     ghost entries = { λ b. boardHeld b };
 
     fn count(&self) -> usize {
-        self.shown.len()
+        self.listed()
     }
 
     fn entry(&self, place: usize) -> Result<Entry, Refusal> {
-        if !in_list(place, self.shown.len()) {
+        if !in_list(place, self.listed()) {
             return Err(Refusal::NotTakable);
         }
         Ok(self.shown[place - 1])

@@ -1,8 +1,9 @@
 // What a book lists, and what is taken from it.
 ghost use mathlib.Core.Path.{_≡_};
 ghost use mathlib.Core.List.{List, [], map};
-ghost use Prim.Native.Nat.{ℕ, _-_, _≤_};
+ghost use Prim.Native.Nat.{ℕ, _≤_};
 ghost use Rattle.market.specs.Lists.{upTo};
+ghost use Rattle.std.specs.Of.Vec.{vec-len};
 ghost use Rattle.std.specs.Vec.{made};
 ghost use Rattle.pools.specs.Books.{loweredOrder, bookHeld, listedOrders, freshBook, takenBook};
 use super::Book;
@@ -32,21 +33,13 @@ fn can_take(n: u32, size: u32) -> bool
     1 <= n && n <= size
 }
 
-// The contracts that are left.
-fn left_of(size: u32, n: u32) -> u32
-    requires { ⌜ n ≤ size ⌝ }
-    ensures { λ r. ⌜ r ≡ size - n ⌝ }
-{
-    size - n
-}
-
 // An order with n contracts less.
 fn lower(order: &Order, n: u32) -> Order
     requires { ⌜ n ≤ now order .entry .size ⌝ }
     ensures { λ r. ⌜ r ≡ loweredOrder n (now (order .entry)) ⌝ }
 {
     let mut entry = order.entry;
-    entry.size = left_of(entry.size, n);
+    entry.size -= n;
     Order {
         number: order.number,
         entry,
@@ -61,17 +54,24 @@ impl Book {
         let orders = Vec::with_capacity(heap, MOST_ORDERS)?;
         Ok(Book { kind, orders })
     }
+
+    // How many orders stand in the book, emptied ones too.
+    fn listed(&self) -> usize
+        ensures { λ r. ⌜ r ≡ vec-len (now (self .entry) .orders) ⌝ }
+    {
+        self.orders.len()
+    }
 }
 
 pub impl Depth for Book as BookDepth {
     ghost entries = { λ b. listedOrders (bookHeld b) };
 
     fn count(&self) -> usize {
-        self.orders.len()
+        self.listed()
     }
 
     fn entry(&self, place: usize) -> Result<Entry, Refusal> {
-        if !in_list(place, self.orders.len()) {
+        if !in_list(place, self.listed()) {
             return Err(Refusal::NotTakable);
         }
         Ok(self.orders[place - 1].entry)
@@ -82,7 +82,7 @@ pub impl Pool for Book as BookPool {
     ghost took = { λ b place n c. bookHeld c ≡ takenBook place n (bookHeld b) };
 
     fn take(&mut self, place: usize, n: u32) -> Result<(), Refusal> {
-        if !in_list(place, self.orders.len()) {
+        if !in_list(place, self.listed()) {
             return Err(Refusal::NotTakable);
         }
         let order = &self.orders[place - 1];

@@ -61,7 +61,7 @@ fn is_live(order: &Order) -> bool
 fn stands_as(order: &Order, number: u16) -> bool
     ensures { λ r. ⌜ r ≡ standsAs number (now (order .entry)) ⌝ }
 {
-    order.number == number && order.entry.size > 0
+    order.number == number && is_live(order)
 }
 
 // Whether any does.

@@ -9,4 +9,4 @@ pub returns : need.returns
 returns c =
     let o = c .args .order .now in
     let made : Entry → Order = λ e. record { number = o .number; entry = e } in
-    ap made (entry-same _ (lowered (c .args .n) (o .entry)) refl refl (c .left-of .ensures) refl)
+    ap made (entry-same _ (lowered (c .args .n) (o .entry)) refl refl refl refl)

@@ -11,7 +11,7 @@ returns-then-not-in-list c =
     let b = c .args .self .now in
     let es = b .shown .items in
     let whole : Entry → Entry = λ e. e in
-    entry-out whole es _ (c .len .ensures ∙ b .shown .ok .0) (c .args .place) (sym (c .in-list .ensures) ∙ c .if-not-in-list .taken)
+    entry-out whole es _ (c .listed .ensures ∙ b .shown .ok .0) (c .args .place) (sym (c .in-list .ensures) ∙ c .if-not-in-list .taken)
     ∙ ap (λ xs. entryAt xs (c .args .place)) (map-same es)
 
 pub returns : need.returns
@@ -19,5 +19,5 @@ returns c =
     let b = c .args .self .now in
     let es = b .shown .items in
     let whole : Entry → Entry = λ e. e in
-    entry-in whole es _ (c .len .ensures ∙ b .shown .ok .0) (c .args .place) (c .index .result .now) (sym (c .in-list .ensures) ∙ c .if-not-in-list .left) (c .index .ensures)
+    entry-in whole es _ (c .listed .ensures ∙ b .shown .ok .0) (c .args .place) (c .index .result .now) (sym (c .in-list .ensures) ∙ c .if-not-in-list .left) (c .index .ensures)
     ∙ ap (λ xs. entryAt xs (c .args .place)) (map-same es)
