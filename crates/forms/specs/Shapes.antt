@@ -1,16 +1,13 @@
 -- What a form says, with plain lists in it.
 use mathlib.Core.Bool.{Bool, true, false}
 use mathlib.Core.List.{List}
-use Prim.Native.Nat.{ℕ}
-use lib.Chars.{codes}
 use lib.IntN.{ℤ}
 use Rattle.std.specs.Of.Vec.{vec-items}
 use Rattle.market.specs.declared.names.Side.{Side}
+use Rattle.market.specs.declared.names.Edge.{Edge}
 use Rattle.market.specs.declared.names.Class.{Class}
 use Rattle.market.specs.declared.names.Mechanism.{Mechanism}
-use Rattle.forms.specs.declared.form.Edge.{Edge}
-use Rattle.forms.specs.declared.form.Edge.the-variants.{Bid, Offer}
-use Rattle.forms.specs.declared.form.Leg.{Leg}
+use Rattle.market.specs.declared.names.Leg.{Leg}
 use Rattle.forms.specs.declared.form.Response.{Response}
 use Rattle.forms.specs.declared.form.Market.the-variants.{Series, Net}
 use Rattle.forms.specs.declared.form.Form.{Form}
@@ -59,7 +56,3 @@ isHouse (amend r) = false
 isHouse (delete m s a) = false
 isHouse (settle a) = false
 isHouse (halt a) = false
-
-abbrev pub edgeName : Edge → List ℕ
-edgeName Bid = codes "bid"
-edgeName Offer = codes "offer"

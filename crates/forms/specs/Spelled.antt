@@ -4,13 +4,10 @@ use Prim.Native.Nat.{ℕ}
 use lib.Chars.{codes}
 use lib.IntN.{ℤ}
 use Rattle.std.specs.Written.{signed}
-use Rattle.market.specs.Names.{sideName, className, mechanismName}
-use Rattle.forms.specs.declared.form.Leg.{Leg}
+use Rattle.market.specs.Names.{sideName, legText, className, mechanismName, edgeName}
+use Rattle.market.specs.declared.names.Leg.{Leg}
 use Rattle.forms.specs.declared.form.Response.{Response}
-use Rattle.forms.specs.Shapes.{Shape, series, net, quote, rest, away, enter, respond, amend, delete, settle, halt, edgeName}
-
-abbrev pub legText : Leg → List ℕ
-legText l = codes "(" ++ (sideName (l .side) ++ (codes " " ++ (signed (l .ratio) ++ codes ")")))
+use Rattle.forms.specs.Shapes.{Shape, series, net, quote, rest, away, enter, respond, amend, delete, settle, halt}
 
 -- each leg behind a space
 abbrev pub legsText : List Leg → List ℕ

@@ -2,22 +2,10 @@
 ghost use mathlib.Core.Path.{_≡_};
 ghost use Rattle.forms.specs.Shapes.{shape, isHouse};
 use market::names::Class;
+use market::names::Edge;
+use market::names::Leg;
 use market::names::Mechanism;
 use market::names::Side;
-
-// Which price of a leg a quote is.
-#[derive(Clone, Copy, PartialEq, Eq)]
-pub enum Edge {
-    Bid,
-    Offer,
-}
-
-// A leg of a net.
-#[derive(Clone, Copy)]
-pub struct Leg {
-    pub side: Side,
-    pub ratio: i64,
-}
 
 // What a house trades: one series, or a net of legs.
 #[derive(Drop)]

@@ -1,37 +1,17 @@
 // The plain spelling of forms: one space between words and lists, none beside a bracket within.
 ghost use Rattle.std.specs.declared.option.Option.the-variants.{Some};
-ghost use Rattle.forms.specs.Shapes.{shape, edgeName};
-ghost use Rattle.forms.specs.Spelled.{legText, legsText, numbersText, responseText, termsText, spelling};
-use crate::form::Edge;
+ghost use Rattle.forms.specs.Shapes.{shape};
+ghost use Rattle.forms.specs.Spelled.{legsText, numbersText, responseText, termsText, spelling};
 use crate::form::Form;
-use crate::form::Leg;
 use crate::form::Market;
 use crate::form::Response;
 use market::names::ClassDisplay;
+use market::names::EdgeDisplay;
+use market::names::Leg;
+use market::names::LegDisplay;
 use market::names::MechanismDisplay;
 use market::names::SideDisplay;
 use std::fmt;
-
-pub impl fmt::Display for Edge as EdgeDisplay {
-    ghost shown = { λ e. Some (edgeName e) };
-
-    fn fmt<W: fmt::Write>(&self, f: &mut fmt::Formatter<W>) -> fmt::Result {
-        match self {
-            Edge::Bid => write!(f, "bid"),
-            Edge::Offer => write!(f, "offer"),
-        }
-    }
-}
-
-pub impl fmt::Display for Leg as LegDisplay {
-    ghost shown = { λ l. Some (legText l) };
-
-    fn fmt<W: fmt::Write>(&self, f: &mut fmt::Formatter<W>) -> fmt::Result {
-        let side = self.side;
-        let ratio = self.ratio;
-        write!(f, "({side} {ratio})")
-    }
-}
 
 // Each leg behind a space.
 #[derive(Drop)]

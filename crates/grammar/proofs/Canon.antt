@@ -24,16 +24,16 @@ use Rattle.market.specs.declared.names.Mechanism.{Mechanism}
 use Rattle.market.specs.declared.names.Mechanism.the-variants.{Block, Facilitation, Solicited}
 use Rattle.market.specs.declared.names.Side.{Side}
 use Rattle.market.specs.declared.names.Side.the-variants.{Buy, Sell}
-use Rattle.market.specs.Names.{sideName, className, mechanismName}
+use Rattle.market.specs.Names.{sideName, className, mechanismName, edgeName, legText}
 use Rattle.words.specs.Bytes.{wordByte, begins}
 use Rattle.words.specs.Number.{decimal, Digit, Numeral, numeral, Number, nought, plain, minus}
 use Rattle.words.specs.Place.{Placed}
-use Rattle.forms.specs.declared.form.Edge.{Edge}
-use Rattle.forms.specs.declared.form.Edge.the-variants.{Bid, Offer}
-use Rattle.forms.specs.declared.form.Leg.{Leg}
+use Rattle.market.specs.declared.names.Edge.{Edge}
+use Rattle.market.specs.declared.names.Edge.the-variants.{Bid, Offer}
+use Rattle.market.specs.declared.names.Leg.{Leg}
 use Rattle.forms.specs.declared.form.Response.{Response}
-use Rattle.forms.specs.Shapes.{Shape, edgeName}
-use Rattle.forms.specs.Spelled.{legText, legsText, moreText, numbersText, responseText, termsText, spelling}
+use Rattle.forms.specs.Shapes.{Shape}
+use Rattle.forms.specs.Spelled.{legsText, moreText, numbersText, responseText, termsText, spelling}
 use Rattle.grammar.specs.Grammar.{Piece, Pieces, Bare, bare, Numbers, Legs, Writes, Says, Located, states, wordsOf, keyed, series, net, quote, rest, away, enter, respond, amend, delete, settle, halt}
 use Rattle.grammar.specs.Grammar as grammar
 

@@ -18,7 +18,7 @@ use Rattle.market.specs.declared.names.Class.{Class}
 use Rattle.market.specs.declared.names.Class.the-variants.{Customer, Other}
 use Rattle.market.specs.declared.names.Mechanism.{Mechanism}
 use Rattle.market.specs.declared.names.Mechanism.the-variants.{Block, Facilitation, Solicited}
-use Rattle.market.specs.Names.{sideName, className, mechanismName}
+use Rattle.market.specs.Names.{sideName, className, mechanismName, edgeName}
 use Rattle.words.specs.Answer.{Answers}
 use Rattle.words.specs.Number.{Number}
 use Rattle.words.specs.Numerals.{readNumber}
@@ -26,12 +26,11 @@ use Rattle.words.specs.Tokens.{Tok}
 use Rattle.words.specs.Tokens as toks
 use Rattle.words.specs.Place.{Placed}
 use Rattle.words.proofs.Reading.{number-read, answers-some}
-use Rattle.forms.specs.declared.form.Edge.{Edge}
-use Rattle.forms.specs.declared.form.Edge.the-variants.{Bid, Offer}
+use Rattle.market.specs.declared.names.Edge.{Edge}
+use Rattle.market.specs.declared.names.Edge.the-variants.{Bid, Offer}
 use Rattle.forms.specs.declared.trouble.Expected.{Expected}
 use Rattle.forms.specs.declared.trouble.Expected.the-variants as expected
 use Rattle.forms.specs.declared.trouble.Trouble.{Trouble}
-use Rattle.forms.specs.Shapes.{edgeName}
 use Rattle.parse.specs.Parser.{Read, then, beside, known, named, openOf, closeOf, valueOf, numberOf, sideOf, classOf, mechanismOf, edgeOf, kindOf, nameOf, keyOf, keyedOf, readSide, readClass, readMechanism, readEdge, readKind, readName}
 use Rattle.grammar.specs.Grammar.{Bare, keyed}
 use Rattle.grammar.proofs.Spelling.{Spells, none, opens, closes, words, join, part, one-word, nothing-left}

@@ -14,7 +14,7 @@ use Rattle.words.specs.Numerals.{readNumber}
 use Rattle.words.specs.Place.{Placed}
 use Rattle.words.specs.Tokens.{Tok}
 use Rattle.words.specs.Tokens as toks
-use Rattle.forms.specs.declared.form.Leg.{Leg}
+use Rattle.market.specs.declared.names.Leg.{Leg}
 use Rattle.forms.specs.declared.trouble.Expected.{Expected}
 use Rattle.forms.specs.declared.trouble.Expected.the-variants as expected
 use Rattle.parse.specs.Parser.{Read, seen, beside, known, sizeOf, nextLegOf, onto, upTo, itemsOf}

@@ -6,13 +6,13 @@ use lib.Chars.{codes}
 use lib.IntN.{ℤ}
 use Rattle.std.specs.declared.result.Result.{Result}
 use Rattle.std.specs.declared.result.Result.the-variants.{Ok}
-use Rattle.market.specs.Names.{className}
+use Rattle.market.specs.Names.{className, edgeName}
 use Rattle.words.specs.Number.{Number}
 use Rattle.words.specs.Tokens.{Tok}
 use Rattle.forms.specs.declared.form.Response.{Response}
 use Rattle.forms.specs.declared.trouble.Expected.the-variants as expected
 use Rattle.forms.specs.declared.trouble.Trouble.{Trouble}
-use Rattle.forms.specs.Shapes.{Shape, edgeName}
+use Rattle.forms.specs.Shapes.{Shape}
 use Rattle.forms.specs.Shapes as shapes
 use Rattle.parse.specs.Parser.{Read, then, numberOf, momentOf, closeOf, Beginning, whole, legsOf, sizesOf, closed, houseOf, houseIn, quoteOf, restOf, awayOf, enterOf, responseOf, respondOf, amendOf, deleteOf, settleOf, haltOf, bodyOf, beginOf, finishOf, formOf, nextLegOf, sizeOf, itemsOf}
 use Rattle.grammar.specs.Grammar.{Bare, keyed, Writes}

@@ -11,13 +11,13 @@ use Rattle.std.specs.shelf.Lists.{All}
 use Rattle.market.specs.declared.names.Side.{Side}
 use Rattle.market.specs.declared.names.Class.{Class}
 use Rattle.market.specs.declared.names.Mechanism.{Mechanism}
-use Rattle.market.specs.Names.{sideName, className, mechanismName}
+use Rattle.market.specs.Names.{sideName, className, mechanismName, edgeName}
 use Rattle.words.specs.Bytes.{wordByte, begins}
 use Rattle.words.specs.Number.{Number}
 use Rattle.words.specs.Place.{Placed}
-use Rattle.forms.specs.declared.form.Edge.{Edge}
-use Rattle.forms.specs.declared.form.Leg.{Leg}
-use Rattle.forms.specs.Shapes.{Shape, edgeName}
+use Rattle.market.specs.declared.names.Edge.{Edge}
+use Rattle.market.specs.declared.names.Leg.{Leg}
+use Rattle.forms.specs.Shapes.{Shape}
 use Rattle.forms.specs.Shapes as shapes
 
 -- A bracket, or a word with its place.

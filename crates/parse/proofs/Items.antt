@@ -9,7 +9,7 @@ use Rattle.std.specs.declared.option.Option.{Option}
 use Rattle.std.specs.declared.option.Option.the-variants.{Some, None}
 use Rattle.std.specs.declared.result.Result.the-variants.{Ok, Err}
 use Rattle.words.specs.Tokens.{Tok}
-use Rattle.forms.specs.declared.form.Edge.{Edge}
+use Rattle.market.specs.declared.names.Edge.{Edge}
 use Rattle.forms.specs.declared.trouble.Trouble.{Trouble}
 use Rattle.parse.specs.Parser.{Read, then, onto, more, upTo, itemsOf, beginOf, legsOf, sizesOf, nextLegOf, sizeOf, closeOf, finishOf, formOf}
 use Rattle.forms.specs.Shapes.{net, quote}

@@ -17,18 +17,17 @@ use Rattle.market.specs.declared.names.Class.{Class}
 use Rattle.market.specs.declared.names.Class.the-variants.{Customer, Other}
 use Rattle.market.specs.declared.names.Mechanism.{Mechanism}
 use Rattle.market.specs.declared.names.Mechanism.the-variants.{Block, Facilitation, Solicited}
-use Rattle.market.specs.Names.{sideName, className, mechanismName}
+use Rattle.market.specs.Names.{sideName, className, mechanismName, edgeName}
 use Rattle.words.specs.Numerals.{readNumber}
 use Rattle.words.specs.Tokens.{Tok, opening, closing, word, badByte, longWord, end}
 use Rattle.words.specs.Place.{Placed}
-use Rattle.forms.specs.declared.form.Edge.{Edge}
-use Rattle.forms.specs.declared.form.Edge.the-variants.{Bid, Offer}
-use Rattle.forms.specs.declared.form.Leg.{Leg}
+use Rattle.market.specs.declared.names.Edge.{Edge}
+use Rattle.market.specs.declared.names.Edge.the-variants.{Bid, Offer}
+use Rattle.market.specs.declared.names.Leg.{Leg}
 use Rattle.parse.specs.declared.names.Kind.{Kind}
 use Rattle.parse.specs.declared.names.Kind.the-variants as kinds
 use Rattle.parse.specs.declared.names.Name.{Name}
 use Rattle.parse.specs.declared.names.Name.the-variants as names
-use Rattle.forms.specs.Shapes.{edgeName}
 use Rattle.forms.specs.declared.form.Response.{Response}
 use Rattle.forms.specs.declared.trouble.Expected.{Expected}
 use Rattle.forms.specs.declared.trouble.Expected.the-variants as expected

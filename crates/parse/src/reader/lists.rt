@@ -21,10 +21,10 @@ use crate::trouble::FormErrorFromRefused;
 use crate::trouble::FormErrorFromTrouble;
 use crate::trouble::unexpected;
 use forms::form::Form;
-use forms::form::Leg;
 use forms::form::Market;
 use forms::trouble::Expected;
 use forms::trouble::Trouble;
+use market::names::Leg;
 use std::alloc::Global;
 use words::token::Token;
 

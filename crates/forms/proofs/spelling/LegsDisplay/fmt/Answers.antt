@@ -4,7 +4,7 @@ use lib.IntN.{pos}
 use lib.ListN.{getD, take}
 use Rattle.std.proofs.Writes.{wrote-none, put-more, put-is}
 use Rattle.std.proofs.shelf.Lists.{take-more, take-all}
-use Rattle.forms.specs.declared.form.Leg.{Leg}
+use Rattle.market.specs.declared.names.Leg.{Leg}
 use Rattle.market.specs.declared.names.Side.the-variants.{Buy}
 use Rattle.forms.specs.Spelled.{legsText}
 use Rattle.forms.proofs.Spelt.{legs-more}

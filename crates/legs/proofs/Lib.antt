@@ -1,0 +1,13 @@
+mod Lowering
+mod Serving
+mod Sided
+mod Amounts
+mod Used
+mod Each
+mod Netting
+mod Taken
+mod Implied
+mod Within
+mod Refilling
+mod Quoted
+mod Ways

@@ -1,0 +1,9 @@
+pub mod Model
+pub mod Limits
+pub mod Quotes
+pub mod Sides
+pub mod Legs
+pub mod Held
+pub mod Fields
+pub mod Quoting
+pub mod Making

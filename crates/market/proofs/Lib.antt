@@ -1,0 +1,5 @@
+pub mod Entries
+pub mod Tested
+pub mod Placing
+pub mod Paired
+pub mod Narrow

@@ -1,0 +1,3 @@
+mod Searched
+mod Rested
+mod Ways
