@@ -21,9 +21,11 @@ use Rattle.legs.specs.Fields.{ratioOk}
 abbrev pub freshLeg : Side → ℤ → LegHeld
 freshLeg s ratio = record { side = s; ratio = natOf ratio; bid = bare; offer = bare }
 
+-- a leg with a ratio within its limits
 abbrev pub partOk : Leg → Bool
 partOk p = ratioOk (p .ratio)
 
+-- a leg as it is handed in, made
 abbrev pub partLeg : Leg → LegHeld
 partLeg p = freshLeg (p .side) (p .ratio)
 
