@@ -1,4 +1,6 @@
 // The settlement of one auction: an order against lines of interest.
+#![tactic(auto)]
+
 mod blotter;
 mod counting;
 pub mod limits;

@@ -1,4 +1,6 @@
 // Who gets how many contracts of an order: the lines level by level, and the contra.
+#![tactic(auto)]
+
 pub mod allocate;
 pub mod better;
 pub mod block;

@@ -1,4 +1,6 @@
 // Filling an order against lines of interest: who gets how many contracts, and the laws of it.
+#![tactic(auto)]
+
 ghost use Rattle.filling.specs.Laws.{FilledDown};
 ghost use Rattle.filling.specs.Rules.{Facilitation, Solicitation, Block};
 

@@ -1,4 +1,6 @@
 // The vocabulary of the market: names, limits, entries, fills, refusals, depths and pools.
+#![tactic(auto)]
+
 pub mod depth;
 pub mod entry;
 pub mod fields;

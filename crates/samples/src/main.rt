@@ -1,4 +1,6 @@
 // Checks each of the sample sheets, and writes its name and the report on it.
+#![tactic(auto)]
+
 use sheet::report::report;
 use std::fs;
 

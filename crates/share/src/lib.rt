@@ -1,4 +1,6 @@
 // The share-out of an amount over claims in line.
+#![tactic(auto)]
+
 ghost use Rattle.std.specs.Prelude.{◌≡◌, ℕ, ◌*◌, ◌/◌, ◌≤◌, true, ◌&&◌, List, map, length, is_ok, sum, ◌==◌, nat_le};
 ghost use Rattle.share.specs.Shares.{small, measured, floors, extra, topped, share_answer, after_share, Fair};
 

@@ -1,4 +1,6 @@
 // Writes the forms of the sheet on standard input in plain spelling, or why it is not read.
+#![tactic(auto)]
+
 use sheet::report::report;
 use std::io::Read;
 

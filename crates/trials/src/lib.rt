@@ -1,4 +1,6 @@
 // Runs of the share-out and of the pools.
+#![tactic(auto)]
+
 #[cfg(test)]
 mod boards;
 #[cfg(test)]

@@ -49,19 +49,19 @@ returns-in-Close c =
     let t = step_is r c.step-in-Close.new.self Close (sym s.next) (λ e. let z : ◌≡◌ {A = ℕ} 0 1 = cc in omega arith) m.at m.sheet m.line m.column in
     record { sheet = t.same ∙ s.sheet; read = spaces_tokens o r s.line s.skips ∙ t.read.1; part = tt }
 
-pub returns-then-is-long : goal.returns-then-is-long
-returns-then-is-long c =
+pub returns-then-is_long : goal.returns-then-is_long
+returns-then-is_long c =
     let o = c.args.self.now in
     let r = c.spaces.new.self in
     let s = c.in-Letter.ensures in
     let m = c.word-word.ensures in
     let same = spaces_tokens o r s.line s.skips in
     let w = word_is r c.word-word.new.self c.word-word.result.bytes.now (sym s.next) m.at m.sheet m.line m.column m.run m.bytes in
-    let long = w.read ∙ cond-false _ _ _ (lt-leb (length c.word-word.result.bytes.now) 16 (ltb-true 16 _ (sym c.is-long.ensures ∙ c.if-is-long.true))) in
+    let long = w.read ∙ cond-false _ _ _ (lt-leb (length c.word-word.result.bytes.now) 16 (ltb-true 16 _ (sym c.is_long.ensures ∙ c.if-is_long.true))) in
     record { sheet = s.sheet; read = (same ∙ long ∙ ap (λ n. long_word n ∷ []) (sym m.here.1), sym same); part = tt }
 
-pub returns-else-is-long : goal.returns-else-is-long
-returns-else-is-long c =
+pub returns-else-is_long : goal.returns-else-is_long
+returns-else-is_long c =
     let o = c.args.self.now in
     let r = c.spaces.new.self in
     let s = c.in-Letter.ensures in
@@ -69,7 +69,7 @@ returns-else-is-long c =
     let v = c.word-word.result in
     let same = spaces_tokens o r s.line s.skips in
     let w = word_is r c.word-word.new.self v.bytes.now (sym s.next) m.at m.sheet m.line m.column m.run m.bytes in
-    let fits = w.read ∙ cond-true _ _ _ (le-leb (length v.bytes.now) 16 (ltb-false 16 _ (sym c.is-long.ensures ∙ c.if-is-long.false))) in
+    let fits = w.read ∙ cond-true _ _ _ (le-leb (length v.bytes.now) 16 (ltb-false 16 _ (sym c.is_long.ensures ∙ c.if-is_long.false))) in
     record {
       sheet = m.sheet ∙ s.sheet;
       read = same ∙ fits ∙ (λ j. word (sym m.here.0 j) (sym m.here.1 j) v.bytes.now ∷ tokens c.word-word.new.self);

@@ -30,7 +30,7 @@ returns c =
     let n = r.at - o.at in
     let inside : r.at ≤ length s = subst (λ t. r.at ≤ length t) e r.within in
     let long : length (take n (drop o.at s)) ≡ n = length-take-le n (drop o.at s) (simp length-drop (omega arith)) in
-    let none : run (drop r.at s) ≡ 0 = subst (λ t. run (drop r.at t) ≡ 0) e (no_letter (drop r.at r.sheet.now) (λ h. c.in-default.not-Letter (c.peek.ensures ∙ h))) in
+    let none : run (drop r.at s) ≡ 0 = subst (λ t. run (drop r.at t) ≡ 0) e (no_letter (drop r.at r.sheet.now) (λ h. c.in_default.not-Letter (c.peek.ensures ∙ h))) in
     record {
       at = omega arith;
       sheet = e;
