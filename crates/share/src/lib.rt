@@ -40,7 +40,7 @@ fn enough(amount: u32, total: u32, claims: usize, room: usize) -> bool
 
 // The contracts wanted in all, where the claims are within their limits.
 fn measure<C: Claim>(claims: &[C]) -> Option<u32>
-    ensures { result ≡ measured (map wanted claims.now) (map standing claims.now) }
+    ensures { result ≡ measured (map C.wanted claims.now) (map C.standing claims.now) }
 {
     if claims.len() > MOST_CLAIMS {
         return None;
@@ -80,8 +80,8 @@ fn one_more(left: u32, floor: u32, size: u32) -> u32
 // What the parts come to.
 fn rounded<C: Claim>(amount: u32, total: u32, claims: &[C]) -> u32
     requires within { amount ≤ total }
-    requires all { total ≡ sum (map wanted claims.now) }
-    ensures { result ≡ sum (floors amount total (map wanted claims.now)) }
+    requires all { total ≡ sum (map C.wanted claims.now) }
+    ensures { result ≡ sum (floors amount total (map C.wanted claims.now)) }
 {
     let mut given: u32 = 0;
     for claim in claims {
@@ -94,7 +94,7 @@ fn rounded<C: Claim>(amount: u32, total: u32, claims: &[C]) -> u32
 fn fill<C: Claim>(amount: u32, total: u32, left: u32, claims: &[C], out: &mut [u32])
     requires within { amount ≤ total }
     requires room { length out.old ≡ length claims.now }
-    ensures { out.new ≡ topped left amount total (map wanted claims.now) }
+    ensures { out.new ≡ topped left amount total (map C.wanted claims.now) }
 {
     let mut rest = left;
     for (i, claim) in claims.iter().enumerate() {
@@ -110,9 +110,9 @@ fn fill<C: Claim>(amount: u32, total: u32, left: u32, claims: &[C], out: &mut [u
 // to those in front that want one more. Refused, and nothing written, where a claim is outside its limits, the place
 // numbers do not rise, the claims want less than the amount, or `out` has not one count for each claim.
 pub fn share_out<C: Claim>(amount: u32, claims: &[C], out: &mut [u32]) -> Result<(), Refusal>
-    ensures answer { result ≡ share_answer amount (map wanted claims.now) (map standing claims.now) (length out.old) }
-    ensures after { out.new ≡ after_share amount (map wanted claims.now) (map standing claims.now) out.old }
-    ensures fair { is_ok result ≡ true → Fair amount (map wanted claims.now) out.new }
+    ensures answer { result ≡ share_answer amount (map C.wanted claims.now) (map C.standing claims.now) (length out.old) }
+    ensures after { out.new ≡ after_share amount (map C.wanted claims.now) (map C.standing claims.now) out.old }
+    ensures fair { is_ok result ≡ true → Fair amount (map C.wanted claims.now) out.new }
 {
     let Some(total) = measure(claims) else {
         return Err(Refusal::OutOfLimits);

@@ -22,8 +22,8 @@ rounded-given-requires g c =
       all = (measured_some ss ps c.in-Some.total (sym c.measure.ensures ∙ c.in-Some.is)).1;
     }
 
-pub overflow-sub-amount : goal.overflow-sub-amount
-overflow-sub-amount g c =
+pub overflow_sub-amount : goal.overflow_sub-amount
+overflow_sub-amount g c =
     let ss = map g.C.Claim.wanted c.args.claims.now in
     let ps = map g.C.Claim.standing c.args.claims.now in
     let m = measured_some ss ps c.in-Some.total (sym c.measure.ensures ∙ c.in-Some.is) in
