@@ -12,7 +12,7 @@ use Rattle.market.specs.Making.{cut_price, entry_of}
 use Rattle.market.proofs.Entries.{entry_same}
 use Rattle.share.specs.Shares.{shares, Fair}
 use Rattle.share.proofs.Rounding.{fair}
-use Rattle.legs.specs.Model.{SideHeld, LegHeld, either_side, used, signed, leg_price, leg_size, least, net_price, net_size, implied, listed, less, taken_side, taken_leg}
+use Rattle.legs.specs.Model.{SideHeld, LegHeld, by_side, used, signed, leg_price, leg_size, least, net_price, net_size, implied, listed, less, taken_side, taken_leg}
 use Rattle.legs.proofs.Amounts.{amount_le}
 
 sum_less : (qs rs : List ℕ) → length rs ≡ length qs → ((i : ℕ) → get_or rs i 0 ≤ get_or qs i 0) → sum (less qs rs) + sum rs ≡ sum qs
@@ -47,7 +47,7 @@ div_less S n r p h =
 used_taken : (s : Side) (n : ℕ) (l : LegHeld) → used s (taken_leg s n l) ≡ taken_side (n * l.ratio) (used s l)
 used_taken s n l = either_side s l.side
   where
-    either_side : (s t : Side) → either_side s t (either_side s t (taken_side (n * l.ratio) l.bid) l.bid) (either_side s t l.offer (taken_side (n * l.ratio) l.offer)) ≡ taken_side (n * l.ratio) (either_side s t l.bid l.offer)
+    either_side : (s t : Side) → by_side s t (by_side s t (taken_side (n * l.ratio) l.bid) l.bid) (by_side s t l.offer (taken_side (n * l.ratio) l.offer)) ≡ taken_side (n * l.ratio) (by_side s t l.bid l.offer)
     either_side Buy Buy = refl
     either_side Buy Sell = refl
     either_side Sell Buy = refl
@@ -60,7 +60,7 @@ against Sell = Buy
 used_other : (s : Side) (n : ℕ) (l : LegHeld) → used (against s) (taken_leg s n l) ≡ used (against s) l
 used_other s n l = either_side s l.side
   where
-    either_side : (s t : Side) → either_side (against s) t (either_side s t (taken_side (n * l.ratio) l.bid) l.bid) (either_side s t l.offer (taken_side (n * l.ratio) l.offer)) ≡ either_side (against s) t l.bid l.offer
+    either_side : (s t : Side) → by_side (against s) t (by_side s t (taken_side (n * l.ratio) l.bid) l.bid) (by_side s t l.offer (taken_side (n * l.ratio) l.offer)) ≡ by_side (against s) t l.bid l.offer
     either_side Buy Buy = refl
     either_side Buy Sell = refl
     either_side Sell Buy = refl

@@ -5,12 +5,12 @@ use Rattle.market.specs.declared.names.Side.{Side}
 use Rattle.market.specs.declared.names.Side.TheVariants.{Buy, Sell}
 use Rattle.legs.specs.declared.legside.LegSide.{LegSide}
 use Rattle.legs.specs.declared.leg.LegQuotes.{LegQuotes}
-use Rattle.legs.specs.Model.{SideHeld, either_side, used, leg_size}
+use Rattle.legs.specs.Model.{SideHeld, by_side, used, leg_size}
 use Rattle.legs.specs.Sides.{side_held}
 use Rattle.legs.specs.Legs.{leg_held}
 use Rattle.legs.proofs.Sided.{total_bound}
 
-pub either : {X : Type 0} (P : X → Type 0) (s t : Side) (x y : X) → P x → P y → P (either_side s t x y)
+pub either : {X : Type 0} (P : X → Type 0) (s t : Side) (x y : X) → P x → P y → P (by_side s t x y)
 either P Buy Buy x y p q = p
 either P Buy Sell x y p q = q
 either P Sell Buy x y p q = q

@@ -27,15 +27,15 @@ abbrev pub bare : SideHeld
 bare = record { price = 1; quotes = [] }
 
 -- by whether two sides are the same
-abbrev pub either_side : {X : Type 0} → Side → Side → X → X → X
-either_side Buy Buy x y = x
-either_side Buy Sell x y = y
-either_side Sell Buy x y = y
-either_side Sell Sell x y = x
+abbrev pub by_side : {X : Type 0} → Side → Side → X → X → X
+by_side Buy Buy x y = x
+by_side Buy Sell x y = y
+by_side Sell Buy x y = y
+by_side Sell Sell x y = x
 
 -- the side of a leg that an implied order uses: a buy the bids of bought legs and the offers of sold legs, a sell the others
 abbrev pub used : Side → LegHeld → SideHeld
-used s l = either_side s l.side l.bid l.offer
+used s l = by_side s l.side l.bid l.offer
 
 -- bought legs are added, and sold legs taken off
 abbrev pub signed : Side → ℕ → ℤ
@@ -86,8 +86,8 @@ abbrev pub taken_leg : Side → ℕ → LegHeld → LegHeld
 taken_leg s n l = record {
   side = l.side;
   ratio = l.ratio;
-  bid = either_side s l.side (taken_side (n * l.ratio) l.bid) l.bid;
-  offer = either_side s l.side l.offer (taken_side (n * l.ratio) l.offer);
+  bid = by_side s l.side (taken_side (n * l.ratio) l.bid) l.bid;
+  offer = by_side s l.side l.offer (taken_side (n * l.ratio) l.offer);
 }
 
 -- whether n implied orders of a side can be taken

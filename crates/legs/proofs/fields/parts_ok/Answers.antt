@@ -13,17 +13,17 @@ use Rattle.legs.proofs.fields.parts_ok.Goals as goal
 abbrev none : Leg
 none = record { side = Buy; ratio = pos 0 }
 
-pub returns-then-not-few-legs : goal.returns-then-not-few-legs
-returns-then-not-few-legs c = let ps = c.args.parts.now in sym (and_left (leb least_legs (length ps) && leb (length ps) most_legs) (all_of part_ok ps) (sym c.few-legs.ensures ∙ c.if-not-few-legs.true))
+pub returns-then-not-few_legs : goal.returns-then-not-few_legs
+returns-then-not-few_legs c = let ps = c.args.parts.now in sym (and_left (leb least_legs (length ps) && leb (length ps) most_legs) (all_of part_ok ps) (sym c.few_legs.ensures ∙ c.if-not-few_legs.true))
 
-pub returns-then-not-ratio-ok : goal.returns-then-not-ratio-ok
-returns-then-not-ratio-ok c =
+pub returns-then-not-ratio_ok : goal.returns-then-not-ratio_ok
+returns-then-not-ratio_ok c =
     let ps = c.args.parts.now in
     let i = c.loop-part.part-index in
     let p = get_or ps i none in
     let f : SFits w64 p.ratio = search rules in
     let e = ap ratio_ok (to_z-of_z w64 p.ratio f) in
-    sym (and_right (leb least_legs (length ps) && leb (length ps) most_legs) (all_of part_ok ps) (all_fails part_ok ps i none c.loop-part.invariant c.loop-part-test.true (sym e ∙ sym c.ratio-ok.ensures ∙ c.if-not-ratio-ok.true)))
+    sym (and_right (leb least_legs (length ps) && leb (length ps) most_legs) (all_of part_ok ps) (all_fails part_ok ps i none c.loop-part.invariant c.loop-part-test.true (sym e ∙ sym c.ratio_ok.ensures ∙ c.if-not-ratio_ok.true)))
 
 pub loop-part-preserved : goal.loop-part-preserved
 loop-part-preserved c =
@@ -32,9 +32,9 @@ loop-part-preserved c =
     let p = get_or ps i none in
     let f : SFits w64 p.ratio = search rules in
     let e = ap ratio_ok (to_z-of_z w64 p.ratio f) in
-    all_more part_ok ps i none c.loop-part.invariant c.loop-part-test.true (sym e ∙ sym c.ratio-ok.ensures ∙ c.if-not-ratio-ok.false)
+    all_more part_ok ps i none c.loop-part.invariant c.loop-part-test.true (sym e ∙ sym c.ratio_ok.ensures ∙ c.if-not-ratio_ok.false)
 
 pub returns : goal.returns
 returns c =
     let ps = c.args.parts.now in
-    sym (and_from (leb least_legs (length ps) && leb (length ps) most_legs) (all_of part_ok ps) (sym c.few-legs.ensures ∙ c.if-not-few-legs.false) (all_done part_ok ps c.loop-part.part-index none c.loop-part.invariant c.loop-part-test.false))
+    sym (and_from (leb least_legs (length ps) && leb (length ps) most_legs) (all_of part_ok ps) (sym c.few_legs.ensures ∙ c.if-not-few_legs.false) (all_done part_ok ps c.loop-part.part-index none c.loop-part.invariant c.loop-part-test.false))

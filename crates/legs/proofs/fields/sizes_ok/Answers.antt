@@ -7,16 +7,16 @@ use Rattle.legs.specs.Limits.{most_quotes}
 use Rattle.legs.specs.Fields.{size_ok}
 use Rattle.legs.proofs.fields.sizes_ok.Goals as goal
 
-pub returns-then-not-few-quotes : goal.returns-then-not-few-quotes
-returns-then-not-few-quotes c = let zs = c.args.sizes.now in sym (and_left (leb (length zs) most_quotes) (all_of size_ok zs) (sym c.few-quotes.ensures ∙ c.if-not-few-quotes.true))
+pub returns-then-not-few_quotes : goal.returns-then-not-few_quotes
+returns-then-not-few_quotes c = let zs = c.args.sizes.now in sym (and_left (leb (length zs) most_quotes) (all_of size_ok zs) (sym c.few_quotes.ensures ∙ c.if-not-few_quotes.true))
 
-pub returns-then-not-size-ok : goal.returns-then-not-size-ok
-returns-then-not-size-ok c =
+pub returns-then-not-size_ok : goal.returns-then-not-size_ok
+returns-then-not-size_ok c =
     let zs = c.args.sizes.now in
     let i = c.loop-size.size-index in
     let f : SFits w64 (get_or zs i (pos 0)) = search rules in
     let e = ap size_ok (to_z-of_z w64 (get_or zs i (pos 0)) f) in
-    sym (and_right (leb (length zs) most_quotes) (all_of size_ok zs) (all_fails size_ok zs i (pos 0) c.loop-size.invariant c.loop-size-test.true (sym e ∙ sym c.size-ok.ensures ∙ c.if-not-size-ok.true)))
+    sym (and_right (leb (length zs) most_quotes) (all_of size_ok zs) (all_fails size_ok zs i (pos 0) c.loop-size.invariant c.loop-size-test.true (sym e ∙ sym c.size_ok.ensures ∙ c.if-not-size_ok.true)))
 
 pub loop-size-preserved : goal.loop-size-preserved
 loop-size-preserved c =
@@ -24,9 +24,9 @@ loop-size-preserved c =
     let i = c.loop-size.size-index in
     let f : SFits w64 (get_or zs i (pos 0)) = search rules in
     let e = ap size_ok (to_z-of_z w64 (get_or zs i (pos 0)) f) in
-    all_more size_ok zs i (pos 0) c.loop-size.invariant c.loop-size-test.true (sym e ∙ sym c.size-ok.ensures ∙ c.if-not-size-ok.false)
+    all_more size_ok zs i (pos 0) c.loop-size.invariant c.loop-size-test.true (sym e ∙ sym c.size_ok.ensures ∙ c.if-not-size_ok.false)
 
 pub returns : goal.returns
 returns c =
     let zs = c.args.sizes.now in
-    sym (and_from (leb (length zs) most_quotes) (all_of size_ok zs) (sym c.few-quotes.ensures ∙ c.if-not-few-quotes.false) (all_done size_ok zs c.loop-size.size-index (pos 0) c.loop-size.invariant c.loop-size-test.false))
+    sym (and_from (leb (length zs) most_quotes) (all_of size_ok zs) (sym c.few_quotes.ensures ∙ c.if-not-few_quotes.false) (all_done size_ok zs c.loop-size.size-index (pos 0) c.loop-size.invariant c.loop-size-test.false))

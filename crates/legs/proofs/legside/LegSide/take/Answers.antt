@@ -14,11 +14,11 @@ serve-requires c =
       enough = let f = ap (λ xs. sum (sizes xs)) (front e.quotes e.count e.line e.few _ same) in let p = c.requires in omega arith;
     }
 
-pub invariant-of-self : goal.invariant-of-self
-invariant-of-self c =
+pub invariant_of-self : goal.invariant_of-self
+invariant_of-self c =
     let e = c.args.self.now in
     let same : e.count - 0 ≡ e.count = omega arith in
-    (e.low, (e.high, (e.few, (new_line e.quotes e.count e.line e.few _ same c.serve.new.quotes c.serve.ensures.places, tt))))
+    record { low = e.low; high = e.high; few = e.few; line = new_line e.quotes e.count e.line e.few _ same c.serve.new.quotes c.serve.ensures.places }
 
 pub returns : goal.returns
 returns c =

@@ -8,20 +8,20 @@ use Rattle.legs.specs.Limits.{most_quoted}
 use Rattle.legs.proofs.Refilling.{write_more, places_more, write_all}
 use Rattle.legs.proofs.quote.ops.refill.Goals as goal
 
-pub overflow-cast-quotes : goal.overflow-cast-quotes
-overflow-cast-quotes c =
+pub overflow_cast-quotes : goal.overflow_cast-quotes
+overflow_cast-quotes c =
     let z = get_or c.args.news.now c.loop-i.i (pos 0) in
     let f : SFits w64 z = search rules in
     cast_fits 1 most_quoted z f (each_ok size_ok c.args.news.now c.loop-i.i (pos 0) c.requires.each c.loop-i-test.true) (omega arith)
 
-pub invariant-of-quotes : goal.invariant-of-quotes
-invariant-of-quotes c =
+pub invariant_of-quotes : goal.invariant_of-quotes
+invariant_of-quotes c =
     let z = get_or c.args.news.now c.loop-i.i (pos 0) in
     let f : SFits w64 z = search rules in
     let ok = each_ok size_ok c.args.news.now c.loop-i.i (pos 0) c.requires.each c.loop-i-test.true in
     let e = cast_abs 1 most_quoted z f ok in
     let k = (narrow 1 most_quoted z ok).high in
-    (omega arith, tt)
+    record { few = omega arith }
 
 pub loop-i-preserved : goal.loop-i-preserved
 loop-i-preserved c =

@@ -16,7 +16,7 @@ returns-in-1 c =
     let hs = legs_held m in
     let n = c.args.n in
     let e = sym c.in-1.is in
-    let told = c.take-implied.ensures in
+    let told = c.take_implied.ensures in
     record {
       answer = told.answer ∙ buy_answer n hs (ratios ls) (λ s. net_size_few s ls) ∙ ap (λ p. take_answer (listed hs) p n) e;
       list = ap listed told.after ∙ bought n hs (ratios ls) (λ s. net_size_few s ls) ∙ ap (λ p. after_take (listed hs) p n) e;
@@ -30,7 +30,7 @@ returns-in-2 c =
     let hs = legs_held m in
     let n = c.args.n in
     let e = sym c.in-2.is in
-    let told = c.take-implied-in-2.ensures in
+    let told = c.take_implied-in-2.ensures in
     record {
       answer = told.answer ∙ sell_answer n hs (ratios ls) (λ s. net_size_few s ls) ∙ ap (λ p. take_answer (listed hs) p n) e;
       list = ap listed told.after ∙ sold n hs (ratios ls) (λ s. net_size_few s ls) ∙ ap (λ p. after_take (listed hs) p n) e;
