@@ -8,27 +8,27 @@ use Rattle.pools.specs.Resting.{any_of, live, stands_as, rest_ok, order_of}
 use Rattle.pools.proofs.Rested.{rested}
 use Rattle.pools.proofs.book.Book.rest.Goals as goal
 
-pub push-reserved-requires : goal.push-reserved-requires
-push-reserved-requires c =
+pub push_reserved-requires : goal.push_reserved-requires
+push_reserved-requires c =
     let os = c.args.self.now.orders.items in
     let k = length-filter live os in
     let e = ap length c.compact.ensures.items in
-    let n : c.live-count.result ≡ count_by live os = c.live-count.ensures ∙ ap (count_by live) c.deref-2.ensures.value in
+    let n : c.live_count.result ≡ count_by live os = c.live_count.ensures ∙ ap (count_by live) c.deref-2.ensures.value in
     let o = c.compact.new.orders.ok.0 in
     let r = c.args.self.now.room in
     let most = c.compact.ensures.capacity in
     omega arith
 
-pub invariant-of-self : goal.invariant-of-self
-invariant-of-self c =
+pub invariant_of-self : goal.invariant_of-self
+invariant_of-self c =
     let os = c.args.self.now.orders.items in
     let k = length-filter live os in
     let e = ap length c.compact.ensures.items in
-    let n : c.live-count.result ≡ count_by live os = c.live-count.ensures ∙ ap (count_by live) c.deref-2.ensures.value in
+    let n : c.live_count.result ≡ count_by live os = c.live_count.ensures ∙ ap (count_by live) c.deref-2.ensures.value in
     let o = c.compact.new.orders.ok.0 in
     let r = c.args.self.now.room in
-    let f = c.push-reserved.ensures in
-    (omega arith, (omega arith, tt))
+    let f = c.push_reserved.ensures in
+    record { room = omega arith; few = omega arith }
 
 pub returns : goal.returns
 returns c =
@@ -44,11 +44,11 @@ returns c =
     let N = to_z-of_z w64 n c.ranges.number in
     let P = to_z-of_z w64 p c.ranges.price in
     let Z = to_z-of_z w64 z c.ranges.size in
-    let ok : rest_ok b.kind n p z ≡ true = sym (ap (λ x. rest_ok b.kind x p' z') N ∙ ap (λ x. rest_ok b.kind n x z') P ∙ ap (rest_ok b.kind n p) Z) ∙ sym c.rest-ok.ensures ∙ c.if-not-rest-ok.false in
-    let o : c.order-of-order.result ≡ order_of n s p z k = c.order-of-order.ensures ∙ ap (λ x. order_of x s p' z' k) N ∙ ap (λ x. order_of n s x z' k) P ∙ ap (λ x. order_of n s p x k) Z in
-    let free : any_of (stands_as (nat_of n)) os ≡ false = sym (c.stands.ensures ∙ ap (any_of (stands_as c.order-of-order.result.number)) c.deref.ensures.value ∙ ap (λ x. any_of (stands_as x.number) os) o) ∙ c.if-stands.false in
-    let count : c.live-count.result ≡ count_by live os = c.live-count.ensures ∙ ap (count_by live) c.deref-2.ensures.value in
-    let few : count_by live os < most_orders = let h = c.if-live-count-ge-MOST-ORDERS.false in omega arith in
-    let new = c.push-reserved.ensures.items ∙ ap (λ xs. xs ++ c.order-of-order.result ∷ []) c.compact.ensures.items ∙ ap (λ x. filter live os ++ x ∷ []) o in
-    let r = rested b n s p z k ok free few c.push-reserved.new.self.items new in
+    let ok : rest_ok b.kind n p z ≡ true = sym (ap (λ x. rest_ok b.kind x p' z') N ∙ ap (λ x. rest_ok b.kind n x z') P ∙ ap (rest_ok b.kind n p) Z) ∙ sym c.rest_ok.ensures ∙ c.if-not-rest_ok.false in
+    let o : c.order_of-order.result ≡ order_of n s p z k = c.order_of-order.ensures ∙ ap (λ x. order_of x s p' z' k) N ∙ ap (λ x. order_of n s x z' k) P ∙ ap (λ x. order_of n s p x k) Z in
+    let free : any_of (stands_as (nat_of n)) os ≡ false = sym (c.stands.ensures ∙ ap (any_of (stands_as c.order_of-order.result.number)) c.deref.ensures.value ∙ ap (λ x. any_of (stands_as x.number) os) o) ∙ c.if-stands.false in
+    let count : c.live_count.result ≡ count_by live os = c.live_count.ensures ∙ ap (count_by live) c.deref-2.ensures.value in
+    let few : count_by live os < most_orders = let h = c.if-live_count-ge-MOST_ORDERS.false in omega arith in
+    let new = c.push_reserved.ensures.items ∙ ap (λ xs. xs ++ c.order_of-order.result ∷ []) c.compact.ensures.items ∙ ap (λ x. filter live os ++ x ∷ []) o in
+    let r = rested b n s p z k ok free few c.push_reserved.new.self.items new in
     record { answer = r.0; after = r.1 }
