@@ -1,6 +1,6 @@
 -- A take of implied orders.
 use Rattle.std.proofs.Common.{◌≡◌, ℕ, zero, suc, ◌-◌, ◌<◌, ◌≤◌, min, Bool, true, false, cond, ◌&&◌, List, [], ◌∷◌, ◌++◌, map, length, take, drop, Ok, Err, Result, sym, refl, ap, ◌∙◌, subst, arith}
-use Rattle.std.specs.List.{AllByRecursion as All}
+use Rattle.std.specs.List.{AllByRecursion}
 use Rattle.std.proofs.lemmas.List.{length-map, length-append, take-append-drop}
 use Rattle.market.specs.declared.names.Side.{Side}
 use Rattle.market.specs.declared.names.Side.TheVariants.{Buy, Sell}
@@ -55,12 +55,12 @@ put_length f k new ls e =
     let w = ap length (take-append-drop k ls) in
     omega arith
 
-pub ratios : (ls : List LegQuotes) → All (λ l. 1 ≤ l.ratio) (map leg_held ls)
+pub ratios : (ls : List LegQuotes) → AllByRecursion (λ l. 1 ≤ l.ratio) (map leg_held ls)
 ratios [] = tt
 ratios (l ∷ ls) = (l.low, ratios ls)
 
 -- a take at the first place, and at the second
-module _ (n : ℕ) (ls : List LegHeld) (p : All (λ l. 1 ≤ l.ratio) ls) (few : (s : Side) → net_size s ls ≤ most_size) where
+module _ (n : ℕ) (ls : List LegHeld) (p : AllByRecursion (λ l. 1 ≤ l.ratio) ls) (few : (s : Side) → net_size s ls ≤ most_size) where
   -- an implied order is listed with its size
   uncut : (s : Side) → min (net_size s ls) most_size ≡ net_size s ls
   uncut s = let h = few s in omega arith

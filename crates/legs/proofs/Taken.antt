@@ -1,7 +1,7 @@
 -- What a take of n implied orders does to the list: the size of the order that is taken falls by n, and the rest stays.
 use Rattle.std.proofs.Common.{◌≡◌, ℕ, zero, suc, ◌+◌, ◌-◌, ◌*◌, ◌/◌, ◌<◌, ◌≤◌, min, List, [], ◌∷◌, map, length, get_or, ℤ, pos, ◌+ℤ◌, fold, sum, sym, refl, ap, ◌∙◌, subst, arith}
 use native.Mathlib.Nat.{add-mul-div_right}
-use Rattle.std.specs.List.{AllByRecursion as All}
+use Rattle.std.specs.List.{AllByRecursion}
 use Rattle.std.proofs.lemmas.List.Sums.{sum_by-cons}
 use Rattle.market.specs.declared.names.Side.{Side}
 use Rattle.market.specs.declared.names.Side.TheVariants.{Buy, Sell}
@@ -86,7 +86,7 @@ map_same : {X Y : Type 0} (g : X → Y) (f : X → X) → ((x : X) → g (f x) �
 map_same g f h [] = refl
 map_same g f h (x ∷ xs) = ap (λ y. y ∷ map g (map f xs)) (h x) ∙ ap (λ ys. g x ∷ ys) (map_same g f h xs)
 
-sizes_taken : (s : Side) (n : ℕ) (ls : List LegHeld) → All (λ l. 1 ≤ l.ratio) ls → All (λ l. n ≤ leg_size s l) ls → map (leg_size s) (map (taken_leg s n) ls) ≡ map (λ x. x - n) (map (leg_size s) ls)
+sizes_taken : (s : Side) (n : ℕ) (ls : List LegHeld) → AllByRecursion (λ l. 1 ≤ l.ratio) ls → AllByRecursion (λ l. n ≤ leg_size s l) ls → map (leg_size s) (map (taken_leg s n) ls) ≡ map (λ x. x - n) (map (leg_size s) ls)
 sizes_taken s n [] p h = refl
 sizes_taken s n (l ∷ ls) p h = ap (λ y. y ∷ map (leg_size s) (map (taken_leg s n) ls)) (size_taken s n l p.0 h.0) ∙ ap (λ ys. (leg_size s l - n) ∷ ys) (sizes_taken s n ls p.1 h.1)
 
@@ -98,19 +98,19 @@ least_less : (n : ℕ) (xs : List ℕ) → least (map (λ y. y - n) xs) ≡ leas
 least_less n [] = omega arith
 least_less n (x ∷ xs) = fold_less n x xs
 
-pub fold_least : (x : ℕ) (xs : List ℕ) → (fold min x xs ≤ x) × All (λ y. fold min x xs ≤ y) xs
+pub fold_least : (x : ℕ) (xs : List ℕ) → (fold min x xs ≤ x) × AllByRecursion (λ y. fold min x xs ≤ y) xs
 fold_least x [] = (omega arith, tt)
 fold_least x (y ∷ ys) =
     let r = fold_least (min x y) ys in
     let a = r.0 in
     (omega arith, (omega arith, r.1))
 
-least_each : {X : Type 0} (f : X → ℕ) (n m : ℕ) (xs : List X) → n ≤ m → All (λ y. m ≤ y) (map f xs) → All (λ x. n ≤ f x) xs
+least_each : {X : Type 0} (f : X → ℕ) (n m : ℕ) (xs : List X) → n ≤ m → AllByRecursion (λ y. m ≤ y) (map f xs) → AllByRecursion (λ x. n ≤ f x) xs
 least_each f n m [] h a = tt
 least_each f n m (x ∷ xs) h a = let k = a.0 in (omega arith, least_each f n m xs h a.1)
 
 -- every leg has contracts for as many implied orders as the net
-pub enough_each : (s : Side) (n : ℕ) (ls : List LegHeld) → n ≤ net_size s ls → All (λ l. n ≤ leg_size s l) ls
+pub enough_each : (s : Side) (n : ℕ) (ls : List LegHeld) → n ≤ net_size s ls → AllByRecursion (λ l. n ≤ leg_size s l) ls
 enough_each s n [] h = tt
 enough_each s n (l ∷ ls) h =
     let r = fold_least (leg_size s l) (map (leg_size s) ls) in
@@ -121,7 +121,7 @@ module _ (s : Side) (n : ℕ) (ls : List LegHeld) where
   abbrev after : List LegHeld
   after = map (taken_leg s n) ls
 
-  pub implied_taken : All (λ l. 1 ≤ l.ratio) ls → n ≤ net_size s ls → net_size s ls ≤ most_size → implied s after ≡ lowered n (implied s ls)
+  pub implied_taken : AllByRecursion (λ l. 1 ≤ l.ratio) ls → n ≤ net_size s ls → net_size s ls ≤ most_size → implied s after ≡ lowered n (implied s ls)
   implied_taken p h few =
       let prices : map (leg_price s) after ≡ map (leg_price s) ls = map_same (leg_price s) (taken_leg s n) (price_taken s n) ls in
       let size : net_size s after ≡ net_size s ls - n = ap least (sizes_taken s n ls p (enough_each s n ls h)) ∙ least_less n (map (leg_size s) ls) in

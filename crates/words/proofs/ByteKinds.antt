@@ -1,6 +1,6 @@
 -- What a byte's kind says of the byte.
 use Rattle.std.proofs.Common.{◌≡◌, ℕ, suc, ◌+◌, ◌<◌, ◌≤◌, Bool, true, false, cond, eqb, List, [], ◌∷◌, ◌++◌, length, get_or, drop, sym, refl, ap, ◌∙◌, subst, ⊎_elim, add-one, arith}
-use Rattle.std.specs.List.{AllByRecursion as All}
+use Rattle.std.specs.List.{AllByRecursion}
 use Rattle.std.proofs.lemmas.List.{at_drop_more, at_drop_all, drop_more}
 use Rattle.std.proofs.lemmas.Bool.{cond_both, cond-true, cond-false, eqb-true, eqb-false, ne_eqb, cases_lt}
 use Rattle.std.proofs.lemmas.Bool.Decides.{nat_tests}
@@ -70,7 +70,7 @@ pub record Cut (s : List ℕ) : Type 0 where
   pub w : List ℕ
   pub t : List ℕ
   pub parts : s ≡ w ++ t
-  pub wordy : All (λ b. word_byte b ≡ true) w
+  pub wordy : AllByRecursion (λ b. word_byte b ≡ true) w
   pub stops : begins t ≡ false
   pub long : run s ≡ length w
   pub tail : behind s ≡ behind t

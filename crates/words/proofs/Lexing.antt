@@ -1,6 +1,6 @@
 -- The first token of some bytes.
 use Rattle.std.proofs.Common.{◌≡◌, ℕ, suc, ◌+◌, Bool, true, false, cond, leb, ◌⊎◌, List, [], ◌∷◌, ◌++◌, length, sym, refl, ap, ◌∙◌, inl, inr, arith}
-use Rattle.std.specs.List.{AllByRecursion as All}
+use Rattle.std.specs.List.{AllByRecursion}
 use Rattle.std.proofs.lemmas.Bool.{cond-true, cond-false, lt-leb, leb-false}
 use Rattle.words.specs.declared.bytes.Kind.{Kind}
 use Rattle.words.specs.declared.bytes.Kind.TheVariants.{LineEnd, Space, Semicolon, Other}
@@ -19,7 +19,7 @@ glue_capped l c d b w ts = go (leb (length w) 16) refl
     go true e = ap (glued l c b) (cond-true _ _ _ e)
     go false e = ap (glued l c b) (cond-false _ _ _ e) ∙ sym (cond-false _ _ _ (lt-leb (suc (length w)) 16 (omega (arith, leb-false (length w) 16 e))))
 
-pub lex_word : (l c b : ℕ) (w s : List ℕ) → All (λ x. word_byte x ≡ true) (b ∷ w) → begins s ≡ false → lex l c ((b ∷ w) ++ s) ≡ capped (length (b ∷ w)) c (word l c (b ∷ w) ∷ lex l (c + length (b ∷ w)) s)
+pub lex_word : (l c b : ℕ) (w s : List ℕ) → AllByRecursion (λ x. word_byte x ≡ true) (b ∷ w) → begins s ≡ false → lex l c ((b ∷ w) ++ s) ≡ capped (length (b ∷ w)) c (word l c (b ∷ w) ∷ lex l (c + length (b ∷ w)) s)
 lex_word l c b [] s h e = lex_letter l c b s h.0 ∙ ap (λ t. joined l c b t (lex l (c + 1) s)) e
 lex_word l c b (d ∷ w) s h e =
     lex_letter l c b ((d ∷ w) ++ s) h.0

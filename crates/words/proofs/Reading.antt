@@ -1,6 +1,6 @@
 -- The number that a word is, by the relation and by the function.
 use Rattle.std.proofs.Common.{◌≡◌, ℕ, ◌-◌, ◌≤◌, Bool, true, false, cond, ◌&&◌, eqb, leb, List, [], ◌∷◌, ◌++◌, length, get_or, ℤ, pos, neg_ℤ, Some, None, codes, Decides, Option, sym, refl, ap, ◌∙◌, subst, append_assoc, append-nil, arith}
-use Rattle.std.specs.List.{AllByRecursion as All}
+use Rattle.std.specs.List.{AllByRecursion}
 use Rattle.std.specs.Str.{bytes_eq}
 use Rattle.std.proofs.lemmas.Slice.Eq.{bytes_eq-Decides}
 use Rattle.std.proofs.lemmas.Bool.{cond-true, cond-false, eqb-true, eqb-false, leb-true, le-leb, both_ways}
@@ -25,7 +25,7 @@ answers_some P (Some x) v p h = ap Some (sym (p.1 v h))
 decides_leb : (a b : ℕ) → Decides (leb a b) (a ≤ b)
 decides_leb a b = (leb-true a b, le-leb a b)
 
-decides_digits : (ds : List ℕ) → Decides (all_digits ds) (All Digit ds)
+decides_digits : (ds : List ℕ) → Decides (all_digits ds) (AllByRecursion Digit ds)
 decides_digits = Decides-by_and (λ d. leb 48 d && leb d 57) Digit all_digits (λ d. Decides-and (leb 48 d) (leb d 57) (decides_leb 48 d) (decides_leb d 57)) refl (λ _ _. refl)
 
 some_digit : {w : List ℕ} {n : ℕ} → Numeral w n → 1 ≤ length w
@@ -35,7 +35,7 @@ numeral_read : (w : List ℕ) → Answers (read_numeral w) (Numeral w)
 numeral_read [] = λ n r. omega (arith, some_digit r)
 numeral_read (d ∷ ds) = go ((leb 49 d && leb d 57) && (all_digits ds && leb (length ds) 12)) refl
   where
-    test : Decides ((leb 49 d && leb d 57) && (all_digits ds && leb (length ds) 12)) (((49 ≤ d) × (d ≤ 57)) × (All Digit ds × (length ds ≤ 12)))
+    test : Decides ((leb 49 d && leb d 57) && (all_digits ds && leb (length ds) 12)) (((49 ≤ d) × (d ≤ 57)) × (AllByRecursion Digit ds × (length ds ≤ 12)))
     test = Decides-and _ _ (Decides-and _ _ (decides_leb 49 d) (decides_leb d 57)) (Decides-and _ _ (decides_digits ds) (decides_leb (length ds) 12))
 
     go : (t : Bool) → ((leb 49 d && leb d 57) && (all_digits ds && leb (length ds) 12)) ≡ t → Answers (read_numeral (d ∷ ds)) (Numeral (d ∷ ds))

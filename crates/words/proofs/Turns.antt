@@ -1,6 +1,6 @@
 -- One byte and one word further on.
 use Rattle.std.proofs.Common.{◌≡◌, ℕ, suc, ◌+◌, ◌<◌, ◌≤◌, Bool, true, false, cond, eqb, leb, List, [], ◌∷◌, ◌++◌, map, length, get_or, take, drop, Some, None, Option, sym, refl, ap, ◌∙◌, subst, append_assoc, arith}
-use Rattle.std.specs.List.{AllByRecursion as All}
+use Rattle.std.specs.List.{AllByRecursion}
 use Rattle.std.proofs.lemmas.List.{at_drop_more, drop-drop, take_at, drop_at, map-append}
 use Rattle.std.proofs.lemmas.Bool.{cond-true, cond-false, ne_eqb}
 use Rattle.words.specs.declared.bytes.Kind.{Kind}
@@ -49,7 +49,7 @@ pub record WordStep (r q : Scanner) (bytes : List ℕ) : Type 0 where
   pub some : 1 ≤ length bytes
   pub read : tokens r ≡ capped (length bytes) r.column (word r.line r.column bytes ∷ tokens q)
 
-word_read : (l c : ℕ) (w t : List ℕ) → 1 ≤ length w → All (λ b. word_byte b ≡ true) w → begins t ≡ false → lex l c (w ++ t) ≡ capped (length w) c (word l c w ∷ lex l (c + length w) t)
+word_read : (l c : ℕ) (w t : List ℕ) → 1 ≤ length w → AllByRecursion (λ b. word_byte b ≡ true) w → begins t ≡ false → lex l c (w ++ t) ≡ capped (length w) c (word l c w ∷ lex l (c + length w) t)
 word_read l c [] t some all e = absurd (omega arith)
 word_read l c (b ∷ w) t some all e = lex_word l c b w t all e
 

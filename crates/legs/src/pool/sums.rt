@@ -1,6 +1,6 @@
 // What legs come to in all.
 ghost use Rattle.std.specs.Prelude.{◌≡◌, ℕ, ◌<◌, ◌≤◌, true, List, map, length, take, ℤ, ◌≤ℤ◌};
-ghost use Rattle.std.specs.List.{AllByRecursion as All};
+ghost use Rattle.std.specs.List.{AllByRecursion};
 ghost use Rattle.legs.specs.Model.{net_price, net_size, leg_size, taken_leg};
 ghost use Rattle.market.specs.Limits.{lowest_price, highest_price, most_size};
 ghost use Rattle.market.specs.Lists.{all_of};
@@ -41,7 +41,7 @@ pub(crate) fn size(legs: &[LegQuotes], side: Side) -> u32
 
 // Takes the contracts of n implied orders from every leg.
 pub(crate) fn take(legs: &mut [LegQuotes], side: Side, n: u32)
-    requires { All (λ l. n ≤ leg_size side l) (map leg_held legs.old) }
+    requires { AllByRecursion (λ l. n ≤ leg_size side l) (map leg_held legs.old) }
     ensures { map leg_held legs.new ≡ map (taken_leg side n) (map leg_held legs.old) }
 {
     for leg in legs.iter_mut() {
