@@ -1,12 +1,11 @@
 -- Replacing one side of one leg.
-use Rattle.std.proofs.Common.{◌≡◌, ℕ, zero, suc, ◌-◌, ◌<◌, ◌≤◌, Bool, true, false, cond, ◌&&◌, List, [], ◌∷◌, map, length, get_or, take, set, ℤ, pos, Ok, Err, Result, sym, refl, ap, ◌∙◌, subst, arith}
+use Rattle.std.proofs.Common.{◌≡◌, ℕ, zero, suc, ◌-◌, ◌<◌, ◌≤◌, true, false, cond, ◌&&◌, List, [], ◌∷◌, map, length, get_or, take, set, ℤ, pos, Ok, Err, sym, refl, ap, ◌∙◌, arith}
 use Rattle.std.proofs.lemmas.List.{length-map, length-take-le, get_or-map, get_or-take, map-set}
 use Rattle.std.proofs.lemmas.Bool.{and_parts}
-use Rattle.market.specs.declared.refusal.Refusal.{Refusal}
 use Rattle.market.specs.declared.refusal.Refusal.TheVariants.{OutOfLimits}
 use Rattle.market.specs.declared.names.Edge.{Edge}
 use Rattle.legs.specs.declared.leg.LegQuotes.{LegQuotes}
-use Rattle.legs.specs.Model.{SideHeld, LegHeld}
+use Rattle.legs.specs.Model.{LegHeld}
 use Rattle.legs.specs.Legs.{leg_held}
 use Rattle.market.specs.Fields.{in_range, nat_of}
 use Rattle.legs.specs.Fields.{price_ok, sizes_ok}

@@ -1,12 +1,12 @@
 -- Quotes as claims of the share-out.
-use Rattle.std.proofs.Common.{◌≡◌, ℕ, ◌≤◌, Bool, true, false, cond, ◌&&◌, eqb, leb, List, [], ◌∷◌, map, length, get_or, is_ok, Ok, Err, sum, Result, sym, refl, ap, ◌∙◌, subst, arith}
+use Rattle.std.proofs.Common.{◌≡◌, ℕ, ◌≤◌, true, ◌&&◌, eqb, leb, List, [], ◌∷◌, length, is_ok, sum, Result, refl, ap, ◌∙◌, arith}
 use Rattle.std.proofs.lemmas.List.{length-map}
 use Rattle.std.proofs.lemmas.Bool.{and_from, le-leb, eq-eqb}
 use Rattle.market.specs.Lists.{all_of}
 use Rattle.market.specs.declared.refusal.Refusal.{Refusal}
-use Rattle.share.specs.Shares.{small, rises_from, lawful, shares, shareable, share_answer, after_share, Fair}
+use Rattle.share.specs.Shares.{small, rises_from, lawful, shares, shareable, share_answer, after_share}
 use Rattle.legs.specs.declared.quote.Quote.{Quote}
-use Rattle.legs.specs.Quotes.{size_of, place_of, sizes, places}
+use Rattle.legs.specs.Quotes.{size_of, sizes, places}
 
 pub all_small : (qs : List Quote) → all_of small (sizes qs) ≡ true
 all_small [] = refl

@@ -1,5 +1,5 @@
 -- What a take of n implied orders does to the list: the size of the order that is taken falls by n, and the rest stays.
-use Rattle.std.proofs.Common.{◌≡◌, ℕ, zero, suc, ◌+◌, ◌-◌, ◌*◌, ◌/◌, ◌<◌, ◌≤◌, min, List, [], ◌∷◌, map, length, get_or, ℤ, pos, ◌+ℤ◌, fold, sum, sym, refl, ap, ◌∙◌, subst, arith}
+use Rattle.std.proofs.Common.{◌≡◌, ℕ, suc, ◌+◌, ◌-◌, ◌*◌, ◌/◌, ◌≤◌, min, List, [], ◌∷◌, map, length, get_or, pos, ◌+ℤ◌, fold, sum, refl, ap, ◌∙◌, arith}
 use native.Mathlib.Nat.{add-mul-div_right}
 use Rattle.std.specs.List.{AllByRecursion}
 use Rattle.std.proofs.lemmas.List.Sums.{sum_by-cons}
@@ -10,9 +10,9 @@ use Rattle.market.specs.Limits.{most_size}
 use Rattle.market.specs.Lists.{lowered}
 use Rattle.market.specs.Making.{cut_price, entry_of}
 use Rattle.market.proofs.Entries.{entry_same}
-use Rattle.share.specs.Shares.{shares, Fair}
+use Rattle.share.specs.Shares.{shares}
 use Rattle.share.proofs.Rounding.{fair}
-use Rattle.legs.specs.Model.{SideHeld, LegHeld, by_side, used, signed, leg_price, leg_size, least, net_price, net_size, implied, listed, less, taken_side, taken_leg}
+use Rattle.legs.specs.Model.{LegHeld, by_side, used, signed, leg_price, leg_size, least, net_price, net_size, implied, less, taken_side, taken_leg}
 use Rattle.legs.proofs.Amounts.{amount_le}
 
 sum_less : (qs rs : List ℕ) → length rs ≡ length qs → ((i : ℕ) → get_or rs i 0 ≤ get_or qs i 0) → sum (less qs rs) + sum rs ≡ sum qs

@@ -1,11 +1,11 @@
 -- The edge of a leg that an implied order uses.
-use Rattle.std.proofs.Common.{ℕ, ◌≤◌, List, [], ◌∷◌, map, sum, div-le_self, arith}
+use Rattle.std.proofs.Common.{◌≤◌, List, [], ◌∷◌, map, sum, div-le_self, arith}
 use Rattle.std.specs.List.{AllByRecursion}
 use Rattle.market.specs.declared.names.Side.{Side}
 use Rattle.market.specs.declared.names.Side.TheVariants.{Buy, Sell}
 use Rattle.legs.specs.declared.legside.LegSide.{LegSide}
 use Rattle.legs.specs.declared.leg.LegQuotes.{LegQuotes}
-use Rattle.legs.specs.Model.{SideHeld, by_side, used, leg_size}
+use Rattle.legs.specs.Model.{by_side, used, leg_size}
 use Rattle.legs.specs.Sides.{side_held}
 use Rattle.legs.specs.Legs.{leg_held}
 use Rattle.legs.proofs.Sided.{total_bound}

@@ -1,5 +1,5 @@
 -- Implied orders are within the limits of entries.
-use Rattle.std.proofs.Common.{ℕ, ◌≤◌, List, [], ◌∷◌, map, arith}
+use Rattle.std.proofs.Common.{◌≤◌, List, [], ◌∷◌, map, arith}
 use Rattle.market.specs.declared.names.Side.{Side}
 use Rattle.market.specs.Limits.{most_size}
 use Rattle.legs.specs.declared.leg.LegQuotes.{LegQuotes}

@@ -1,5 +1,5 @@
 -- When fields are within their limits.
-use Rattle.std.specs.Prelude.{ℕ, Bool, ◌&&◌, List, length, ℤ, pos, nat_le}
+use Rattle.std.specs.Prelude.{Bool, ◌&&◌, List, length, ℤ, pos, nat_le}
 use Rattle.market.specs.Fields.{in_range}
 use Rattle.market.specs.Lists.{all_of}
 use Rattle.legs.specs.Limits.{highest_ratio, highest_quote, most_quotes, most_quoted}

@@ -1,5 +1,5 @@
 -- A legs market as it is made, of sides and ratios.
-use Rattle.std.specs.Prelude.{ℕ, Bool, cond, ◌&&◌, List, map, length, ℤ, Ok, Err, Result, nat_le}
+use Rattle.std.specs.Prelude.{Bool, cond, ◌&&◌, List, map, length, ℤ, Ok, Err, Result, nat_le}
 use Rattle.market.specs.declared.names.Side.{Side}
 use Rattle.market.specs.declared.names.Leg.{Leg}
 use Rattle.market.specs.declared.refusal.Refusal.{Refusal}

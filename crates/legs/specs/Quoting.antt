@@ -1,5 +1,5 @@
 -- Replacing one side of one leg.
-use Rattle.std.specs.Prelude.{ℕ, zero, suc, ◌-◌, Bool, cond, ◌&&◌, List, [], ◌∷◌, map, length, ℤ, pos, Ok, Err, Result}
+use Rattle.std.specs.Prelude.{ℕ, ◌-◌, Bool, cond, ◌&&◌, List, map, length, ℤ, pos, Ok, Err, Result}
 use Rattle.market.specs.declared.refusal.Refusal.{Refusal}
 use Rattle.market.specs.declared.refusal.Refusal.TheVariants.{OutOfLimits}
 use Rattle.market.specs.declared.names.Edge.{Edge}

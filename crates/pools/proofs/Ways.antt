@@ -1,5 +1,5 @@
 -- Facts by whether a test holds.
-use Rattle.std.proofs.Common.{◌≡◌, Bool, true, false, List, [], ◌∷◌, map, sym, refl, ap, ◌∙◌, subst}
+use Rattle.std.proofs.Common.{◌≡◌, Bool, true, false, List, [], ◌∷◌, map, sym, refl, ap, subst}
 use Rattle.market.specs.Lists.{EitherWay}
 
 pub handed : (t : Bool) (A B C D : Type 0) → (A → C) → (B → D) → EitherWay t A B → EitherWay t C D

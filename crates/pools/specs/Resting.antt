@@ -1,5 +1,5 @@
 -- Resting an order in a book.
-use Rattle.std.specs.Prelude.{ℕ, Bool, true, false, cond, ◌&&◌, ◌||◌, List, [], ◌∷◌, ◌++◌, ℤ, pos, is_ok, Ok, Err, count_by, filter, Result, ◌==◌, nat_lt}
+use Rattle.std.specs.Prelude.{ℕ, Bool, false, cond, ◌&&◌, ◌||◌, List, [], ◌∷◌, ◌++◌, ℤ, pos, is_ok, Ok, Err, count_by, filter, Result, ◌==◌, nat_lt}
 use Rattle.market.specs.declared.names.Kind.{Kind}
 use Rattle.market.specs.declared.names.Kind.TheVariants.{Series, Net}
 use Rattle.market.specs.declared.names.Side.{Side}

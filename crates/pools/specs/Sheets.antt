@@ -1,5 +1,5 @@
 -- The market of a sheet: what it holds, and what resting, quoting and showing away do in it.
-use Rattle.std.specs.Prelude.{List, ℤ, Ok, Err, Result}
+use Rattle.std.specs.Prelude.{List, ℤ, Err, Result}
 use Rattle.market.specs.declared.names.Side.{Side}
 use Rattle.market.specs.declared.names.Edge.{Edge}
 use Rattle.market.specs.declared.names.Class.{Class}

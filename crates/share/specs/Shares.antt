@@ -1,5 +1,5 @@
 -- The share-out of an amount a over claims of the sizes ss, with the place numbers ps.
-use Rattle.std.specs.Prelude.{◌≡◌, ℕ, ◌+◌, ◌-◌, ◌*◌, ◌/◌, ◌<◌, ◌≤◌, Bool, true, false, cond, ◌&&◌, ◌⊎◌, List, [], ◌∷◌, ◌++◌, map, length, Some, None, Ok, Err, sum, Option, Result, ◌==◌, nat_le, nat_lt, slice_index}
+use Rattle.std.specs.Prelude.{◌≡◌, ℕ, ◌+◌, ◌-◌, ◌*◌, ◌/◌, ◌<◌, ◌≤◌, Bool, true, cond, ◌&&◌, ◌⊎◌, List, [], ◌∷◌, map, length, Some, None, Ok, Err, sum, Option, Result, ◌==◌, nat_le, nat_lt, slice_index}
 use Rattle.market.specs.Limits.{most_size}
 use Rattle.market.specs.Lists.{all_of}
 use Rattle.market.specs.declared.refusal.Refusal.{Refusal}

@@ -1,11 +1,11 @@
 -- The first token of some bytes.
-use Rattle.std.proofs.Common.{◌≡◌, ℕ, suc, ◌+◌, Bool, true, false, cond, leb, ◌⊎◌, List, [], ◌∷◌, ◌++◌, length, sym, refl, ap, ◌∙◌, inl, inr, arith}
+use Rattle.std.proofs.Common.{◌≡◌, ℕ, suc, ◌+◌, Bool, true, false, leb, ◌⊎◌, List, [], ◌∷◌, ◌++◌, length, sym, refl, ap, ◌∙◌, inl, inr, arith}
 use Rattle.std.specs.List.{AllByRecursion}
 use Rattle.std.proofs.lemmas.Bool.{cond-true, cond-false, lt-leb, leb-false}
 use Rattle.words.specs.declared.bytes.Kind.{Kind}
 use Rattle.words.specs.declared.bytes.Kind.TheVariants.{LineEnd, Space, Semicolon, Other}
 use Rattle.words.specs.Bytes.{word_byte, next, begins}
-use Rattle.words.specs.Tokens.{Tok, word, bad_byte, long_word, end, capped, glued, joined, by_kind, lex}
+use Rattle.words.specs.Tokens.{Tok, word, bad_byte, end, capped, glued, joined, by_kind, lex}
 use Rattle.words.proofs.ByteKinds.{word_kind}
 
 pub lex_letter : (l c b : ℕ) (bs : List ℕ) → word_byte b ≡ true → lex l c (b ∷ bs) ≡ joined l c b (begins bs) (lex l (c + 1) bs)

@@ -1,9 +1,8 @@
 -- Spaces that are passed.
 use Rattle.std.proofs.Common.{◌≡◌, ℕ, ◌+◌, List, [], ◌∷◌, drop, sym, refl, ap, ◌∙◌, subst, subst₂, arith}
 use Rattle.words.specs.declared.scan.Scanner.{Scanner}
-use Rattle.words.specs.declared.bytes.Kind.{Kind}
-use Rattle.words.specs.declared.bytes.Kind.TheVariants.{LineEnd, Space}
-use Rattle.words.specs.Bytes.{kind, next, behind, Skips, none, more}
+use Rattle.words.specs.declared.bytes.Kind.TheVariants.{Space}
+use Rattle.words.specs.Bytes.{next, behind, Skips, none, more}
 use Rattle.words.proofs.ByteKinds.{Told, told}
 use Rattle.words.specs.Tokens.{lex}
 use Rattle.words.specs.View.{rest, tokens}

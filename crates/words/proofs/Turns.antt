@@ -1,15 +1,15 @@
 -- One byte and one word further on.
-use Rattle.std.proofs.Common.{◌≡◌, ℕ, suc, ◌+◌, ◌<◌, ◌≤◌, Bool, true, false, cond, eqb, leb, List, [], ◌∷◌, ◌++◌, map, length, get_or, take, drop, Some, None, Option, sym, refl, ap, ◌∙◌, subst, append_assoc, arith}
+use Rattle.std.proofs.Common.{◌≡◌, ℕ, ◌+◌, ◌≤◌, true, false, cond, eqb, List, [], ◌∷◌, ◌++◌, length, get_or, take, drop, sym, refl, ap, ◌∙◌, arith}
 use Rattle.std.specs.List.{AllByRecursion}
-use Rattle.std.proofs.lemmas.List.{at_drop_more, drop-drop, take_at, drop_at, map-append}
-use Rattle.std.proofs.lemmas.Bool.{cond-true, cond-false, ne_eqb}
+use Rattle.std.proofs.lemmas.List.{at_drop_more, drop-drop, take_at, drop_at}
+use Rattle.std.proofs.lemmas.Bool.{cond-false, ne_eqb}
 use Rattle.words.specs.declared.bytes.Kind.{Kind}
-use Rattle.words.specs.declared.bytes.Kind.TheVariants.{LineEnd, Space, Open, Close, Semicolon, Letter, Other}
+use Rattle.words.specs.declared.bytes.Kind.TheVariants.{LineEnd, Letter}
 use Rattle.words.specs.declared.scan.Scanner.{Scanner}
-use Rattle.words.specs.Bytes.{word_byte, kind, next, begins, run, front, behind}
-use Rattle.words.specs.Tokens.{Tok, opening, closing, word, capped, by_kind, lex}
+use Rattle.words.specs.Bytes.{word_byte, kind, next, begins, run, behind}
+use Rattle.words.specs.Tokens.{word, capped, by_kind, lex}
 use Rattle.words.specs.View.{rest, tokens}
-use Rattle.words.proofs.ByteKinds.{Told, told_at, within, not_end, Cut, cut, LetterAt, letter_at}
+use Rattle.words.proofs.ByteKinds.{told_at, within, not_end, cut, letter_at}
 use Rattle.words.proofs.Lexing.{lex_word}
 
 -- one byte on

@@ -1,5 +1,5 @@
 -- Where an offset of a sheet stands: its line and its column, both from 1. Words with their places.
-use Rattle.std.specs.Prelude.{◌≡◌, ℕ, ◌+◌, ◌≤◌, Bool, true, false, cond, List, [], ◌∷◌, length, take, drop, ◌==◌}
+use Rattle.std.specs.Prelude.{◌≡◌, ℕ, ◌+◌, Bool, true, false, cond, List, [], ◌∷◌, length, take, drop, ◌==◌}
 
 -- the line after these bytes, where the first of them stands on the line n
 abbrev pub line_after : ℕ → List ℕ → ℕ

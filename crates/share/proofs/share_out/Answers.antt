@@ -1,4 +1,4 @@
-use Rattle.std.proofs.Common.{◌≡◌, ◌≤◌, eqb, leb, map, length, sym, ◌∙◌, arith}
+use Rattle.std.proofs.Common.{eqb, leb, map, length, sym, ◌∙◌, arith}
 use Rattle.std.proofs.lemmas.List.{length-map}
 use Rattle.std.proofs.lemmas.Bool.{false≢true, and_parts, leb-true}
 use Rattle.share.proofs.Rounding.{left_over_fits}

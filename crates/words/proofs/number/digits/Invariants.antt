@@ -1,4 +1,4 @@
-use Rattle.std.proofs.Common.{◌≡◌, ◌+◌, ◌-◌, ◌^◌, ◌<◌, ◌≤◌, length, take, drop}
+use Rattle.std.proofs.Common.{◌≡◌, ◌+◌, ◌-◌, ◌^◌, ◌<◌, take, drop}
 use Rattle.std.specs.List.{AllByRecursion}
 use Rattle.words.specs.Number.{decimal, Digit}
 use Rattle.words.proofs.number.digits.Given as goal

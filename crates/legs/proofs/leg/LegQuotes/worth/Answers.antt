@@ -1,5 +1,4 @@
-use Rattle.std.proofs.Common.{◌≡◌, ◌*◌, ap, ◌∙◌}
-use Rattle.legs.specs.Model.{SideHeld}
+use Rattle.std.proofs.Common.{◌*◌, ap, ◌∙◌}
 use Rattle.legs.proofs.Amounts.{worth_le}
 use Rattle.legs.proofs.leg.LegQuotes.worth.Goals as goal
 

@@ -1,4 +1,4 @@
-use Rattle.std.proofs.Common.{◌≡◌, ℕ, ◌-◌, ◌≤◌, List, sum, sym, ap, ◌∙◌, subst, arith}
+use Rattle.std.proofs.Common.{◌≡◌, ℕ, ◌-◌, List, sum, ap, arith}
 use Rattle.legs.specs.Model.{SideHeld}
 use Rattle.legs.specs.Quotes.{sizes}
 use Rattle.legs.proofs.Sided.{front, front_few, front_rising, new_line, new_sizes}

@@ -1,9 +1,8 @@
-use Rattle.std.proofs.Common.{◌≡◌, ◌-◌, ◌≤◌, true, false, length, get_or, nat_abs, sym, ap, ◌∙◌, subst, arith, w64, to_z, of_z}
+use Rattle.std.proofs.Common.{◌≡◌, ◌-◌, ◌≤◌, true, false, length, get_or, nat_abs, sym, ap, ◌∙◌, arith, w64, to_z, of_z}
 use Rattle.std.proofs.lemmas.Int.{to_z-of_z}
 use Rattle.market.specs.Fields.{nat_of}
 use Rattle.legs.specs.Legs.{leg_held}
 use Rattle.legs.specs.Quoting.{quoted_side, quoted_leg, quote_ok}
-use Rattle.market.proofs.Narrow.{Narrow}
 use Rattle.legs.proofs.Quoted.{quote_refused, quote_done, leg_narrow}
 use Rattle.legs.proofs.pool.LegsMarket.quote.Goals as goal
 

@@ -1,7 +1,7 @@
-use Rattle.std.proofs.Common.{◌≡◌, ℕ, ◌-◌, ◌≤◌, List, map, take, sym, refl, ap, ◌∙◌, arith}
+use Rattle.std.proofs.Common.{◌≡◌, ◌-◌, map, take, sym, refl, ap, ◌∙◌, arith}
 use Rattle.std.proofs.lemmas.Bool.{true≢false}
 use Rattle.market.proofs.Placing.{up_to_bounds}
-use Rattle.legs.specs.Model.{LegHeld, net_size, taken_leg}
+use Rattle.legs.specs.Model.{net_size, taken_leg}
 use Rattle.legs.specs.Legs.{leg_held}
 use Rattle.legs.specs.Held.{legs_held}
 use Rattle.legs.proofs.Taken.{enough_each}

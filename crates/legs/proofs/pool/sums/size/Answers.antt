@@ -1,4 +1,4 @@
-use Rattle.std.proofs.Common.{◌≡◌, min, map, ap, ◌∙◌, arith}
+use Rattle.std.proofs.Common.{min, map, ◌∙◌, arith}
 use Rattle.std.proofs.lemmas.List.{length-map}
 use Rattle.legs.specs.Model.{leg_size}
 use Rattle.legs.specs.Legs.{leg_held}

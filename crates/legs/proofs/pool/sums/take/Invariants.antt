@@ -1,4 +1,4 @@
-use Rattle.std.proofs.Common.{◌≡◌, map}
+use Rattle.std.proofs.Common.{map}
 use Rattle.legs.specs.Model.{taken_leg}
 use Rattle.legs.specs.Legs.{leg_held}
 use Rattle.legs.proofs.Each.{Mapping}

@@ -1,6 +1,3 @@
-use Rattle.std.proofs.Common.{◌≡◌, ◌++◌, take, drop}
-use Rattle.legs.specs.Model.{less}
-use Rattle.legs.specs.Quotes.{sizes, places}
 use Rattle.legs.proofs.Lowering.{Lowering}
 use Rattle.legs.proofs.quote.ops.lower.Given as goal
 

@@ -1,8 +1,8 @@
-use Rattle.std.proofs.Common.{◌≡◌, ◌<◌, length, get_or, pos, sym, refl, ap, ◌∙◌, arith, w64, SFits, rules}
+use Rattle.std.proofs.Common.{◌<◌, length, get_or, pos, refl, ◌∙◌, arith, w64, SFits, rules}
 use Rattle.market.specs.Fields.{nat_of}
 use Rattle.legs.specs.Fields.{size_ok}
 use Rattle.legs.specs.Quotes.{size_of}
-use Rattle.market.proofs.Narrow.{Narrow, narrow, cast_abs, cast_fits}
+use Rattle.market.proofs.Narrow.{narrow, cast_abs, cast_fits}
 use Rattle.market.proofs.Tested.{each_ok}
 use Rattle.legs.specs.Limits.{most_quoted}
 use Rattle.legs.proofs.Refilling.{write_more, places_more, write_all}

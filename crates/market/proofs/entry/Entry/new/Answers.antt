@@ -1,11 +1,11 @@
-use Rattle.std.proofs.Common.{◌≡◌, true, cond, pos, nat_abs, Ok, Err, sym, refl, ap, ◌∙◌, w32, w64, SFits, to_z, of_z, rules}
+use Rattle.std.proofs.Common.{◌≡◌, true, cond, pos, Ok, Err, sym, refl, ap, ◌∙◌, w32, w64, SFits, to_z, of_z, rules}
 use Rattle.std.proofs.lemmas.Int.{to_z-of_z}
 use Rattle.std.proofs.lemmas.Bool.{and_parts}
 use Rattle.market.specs.declared.refusal.Refusal.TheVariants.{OutOfLimits}
 use Rattle.market.specs.Limits.{lowest_price, highest_price, most_size}
 use Rattle.market.specs.Fields.{in_range, nat_of}
 use Rattle.market.specs.Making.{entry_of, entry_ok}
-use Rattle.market.proofs.Narrow.{Narrow, narrow, cast_abs, entry_of_fields}
+use Rattle.market.proofs.Narrow.{narrow, cast_abs, entry_of_fields}
 use Rattle.market.proofs.entry.Entry.new.Goals as goal
 
 pub returns : goal.returns

@@ -1,6 +1,5 @@
-use Rattle.std.proofs.Common.{◌≡◌, ◌<◌, true, false, length, vec_capacity, sym, ap, ◌∙◌, arith, rules}
-use Rattle.std.proofs.lemmas.List.Filters.{FiltersInPlace, FiltersInPlace-all, FiltersInPlace-more_no, FiltersInPlace-more_swap}
-use Rattle.pools.specs.Resting.{live}
+use Rattle.std.proofs.Common.{◌<◌, length, sym, ◌∙◌, arith, rules}
+use Rattle.std.proofs.lemmas.List.Filters.{FiltersInPlace-all, FiltersInPlace-more_no, FiltersInPlace-more_swap}
 use Rattle.pools.proofs.book.rest.compact.Goals as goal
 use Rattle.pools.proofs.book.rest.compact.Goals.{then-is_live, else-is_live}
 

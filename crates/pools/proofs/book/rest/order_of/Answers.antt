@@ -1,4 +1,4 @@
-use Rattle.std.proofs.Common.{◌≡◌, ℕ, ◌&&◌, ℤ, pos, ap, ◌∙◌, w64, to_z, of_z}
+use Rattle.std.proofs.Common.{◌≡◌, ℕ, ◌&&◌, pos, ap, ◌∙◌, w64, to_z, of_z}
 use Rattle.std.proofs.lemmas.Int.{to_z-of_z}
 use Rattle.std.proofs.lemmas.Bool.{and_parts}
 use Rattle.market.specs.declared.entry.Entry.{Entry}
@@ -8,7 +8,7 @@ use Rattle.market.specs.Making.{entry_of}
 use Rattle.market.proofs.Narrow.{cast_abs}
 use Rattle.pools.specs.declared.book.Order.{Order}
 use Rattle.pools.specs.Limits.{highest_number}
-use Rattle.pools.specs.Resting.{lowest_of, order_of}
+use Rattle.pools.specs.Resting.{lowest_of}
 use Rattle.pools.proofs.book.rest.order_of.Goals as goal
 
 pub returns : goal.returns

@@ -1,4 +1,4 @@
-use Rattle.std.proofs.Common.{◌≡◌, true, false, get_or, sym, ap, ◌∙◌}
+use Rattle.std.proofs.Common.{◌≡◌, true, false, sym, ap, ◌∙◌}
 use Rattle.pools.specs.Resting.{stands_as}
 use Rattle.pools.proofs.Searched.{any_more, any_here, any_none}
 use Rattle.pools.proofs.book.rest.stands.Goals as goal

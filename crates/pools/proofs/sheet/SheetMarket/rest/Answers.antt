@@ -1,8 +1,5 @@
-use Rattle.std.proofs.Common.{◌≡◌, ℤ, Result, sym, ap, ◌∙◌, w64, SFits, to_z, of_z}
+use Rattle.std.proofs.Common.{◌≡◌, ℤ, sym, ap, ◌∙◌, w64, SFits, to_z, of_z}
 use Rattle.std.proofs.lemmas.Int.{to_z-of_z}
-use Rattle.market.specs.declared.names.Side.{Side}
-use Rattle.market.specs.declared.names.Class.{Class}
-use Rattle.market.specs.declared.refusal.Refusal.{Refusal}
 use Rattle.legs.specs.Held.{legs_held}
 use Rattle.pools.specs.Books.{BookHeld, book_held}
 use Rattle.pools.specs.Resting.{rest_answer, after_rest}

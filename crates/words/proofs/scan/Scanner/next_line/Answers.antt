@@ -1,11 +1,11 @@
-use Rattle.std.proofs.Common.{◌≡◌, ℕ, ◌+◌, ◌<◌, ◌≤◌, ◌∷◌, length, get_or, drop, sym, refl, ap, ◌∙◌, arith}
+use Rattle.std.proofs.Common.{◌≡◌, ◌+◌, ◌<◌, ◌∷◌, length, get_or, drop, sym, ap, ◌∙◌, arith}
 use Rattle.std.proofs.lemmas.List.{at_drop_more, at_drop_all}
 use Rattle.std.proofs.lemmas.Bool.{cond-true, eq-eqb, eqb-true, eqb-false}
 use Rattle.words.specs.declared.bytes.Kind.TheVariants.{LineEnd}
 use Rattle.words.specs.Bytes.{behind}
 use Rattle.words.proofs.ByteKinds.{within, told_at}
 use Rattle.words.specs.View.{rest}
-use Rattle.words.proofs.Turns.{step_is, Step}
+use Rattle.words.proofs.Turns.{step_is}
 use Rattle.words.proofs.scan.Scanner.next_line.Goals as goal
 
 pub step-requires : goal.step-requires

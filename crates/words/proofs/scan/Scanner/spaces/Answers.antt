@@ -1,8 +1,7 @@
-use Rattle.std.proofs.Common.{◌≡◌, ℕ, sym, refl, ap, ◌∙◌, arith}
-use Rattle.words.specs.declared.bytes.Kind.TheVariants.{LineEnd, Space}
+use Rattle.std.proofs.Common.{◌≡◌, ℕ, sym, refl, arith}
+use Rattle.words.specs.declared.bytes.Kind.TheVariants.{Space}
 use Rattle.words.specs.Bytes.{none}
 use Rattle.words.proofs.ByteKinds.{within}
-use Rattle.words.specs.View.{rest}
 use Rattle.words.proofs.Turns.{step_is}
 use Rattle.words.proofs.Spaces.{past_more}
 use Rattle.words.proofs.scan.Scanner.spaces.Goals as goal

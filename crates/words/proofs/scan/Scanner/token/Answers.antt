@@ -1,7 +1,7 @@
-use Rattle.std.proofs.Common.{◌≡◌, ℕ, ◌<◌, ◌≤◌, [], ◌∷◌, length, take, drop, sym, refl, ap, ◌∙◌, subst, arith}
+use Rattle.std.proofs.Common.{◌≡◌, ℕ, ◌<◌, [], ◌∷◌, length, take, drop, sym, ap, ◌∙◌, arith}
 use Rattle.std.proofs.lemmas.Bool.{cond-true, cond-false, le-leb, lt-leb, ltb-true, ltb-false}
 use Rattle.words.specs.declared.bytes.Kind.{Kind}
-use Rattle.words.specs.declared.bytes.Kind.TheVariants.{LineEnd, Space, Open, Close, Letter}
+use Rattle.words.specs.declared.bytes.Kind.TheVariants.{LineEnd, Open, Close}
 use Rattle.words.specs.declared.scan.Scanner.{Scanner}
 use Rattle.words.specs.Bytes.{next}
 use Rattle.words.specs.Place.{line_at, column_at}
@@ -10,7 +10,7 @@ use Rattle.words.specs.View.{rest, tokens}
 use Rattle.words.proofs.ByteKinds.{within}
 use Rattle.words.proofs.Lexing.{lex_end, lex_bad}
 use Rattle.words.proofs.Spaces.{spaces_tokens}
-use Rattle.words.proofs.Turns.{step_is, Step, word_is, WordStep}
+use Rattle.words.proofs.Turns.{step_is, word_is}
 use Rattle.words.proofs.scan.Scanner.token.Goals as goal
 
 -- a kind other than a line's end stands within the sheet

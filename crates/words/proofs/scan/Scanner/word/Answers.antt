@@ -1,9 +1,8 @@
-use Rattle.std.proofs.Common.{◌≡◌, ℕ, ◌+◌, ◌-◌, ◌<◌, ◌≤◌, length, take, drop, sym, refl, ap, ◌∙◌, subst, arith, length-drop, rules}
+use Rattle.std.proofs.Common.{◌≡◌, ◌+◌, ◌-◌, ◌≤◌, length, take, drop, sym, refl, ap, ◌∙◌, subst, arith, length-drop}
 use Rattle.std.proofs.lemmas.List.{length-take-le}
 use Rattle.std.proofs.lemmas.Bool.{cond-false}
-use Rattle.words.specs.declared.bytes.Kind.TheVariants.{Letter}
-use Rattle.words.specs.Bytes.{run, next}
-use Rattle.words.proofs.ByteKinds.{LetterAt, letter_at, no_letter}
+use Rattle.words.specs.Bytes.{run}
+use Rattle.words.proofs.ByteKinds.{letter_at, no_letter}
 use Rattle.words.proofs.scan.Scanner.word.Goals as goal
 
 pub step-requires : goal.step-requires

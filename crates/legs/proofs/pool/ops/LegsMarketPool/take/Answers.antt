@@ -1,6 +1,4 @@
-use Rattle.std.proofs.Common.{◌≡◌, ◌≤◌, map, take, sym, refl, ap, ◌∙◌}
-use Rattle.market.specs.declared.names.Side.{Side}
-use Rattle.market.specs.Limits.{most_size}
+use Rattle.std.proofs.Common.{take, sym, ap, ◌∙◌}
 use Rattle.market.specs.Lists.{take_answer, after_take}
 use Rattle.legs.specs.Model.{listed, taken_at}
 use Rattle.legs.specs.Held.{legs_held}

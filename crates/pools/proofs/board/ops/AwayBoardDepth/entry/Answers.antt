@@ -1,4 +1,4 @@
-use Rattle.std.proofs.Common.{◌≡◌, List, sym, ap, ◌∙◌}
+use Rattle.std.proofs.Common.{sym, ap, ◌∙◌}
 use Rattle.market.specs.declared.entry.Entry.{Entry}
 use Rattle.market.specs.Lists.{entry_at}
 use Rattle.market.proofs.Placing.{entry_out, entry_in}

@@ -1,4 +1,4 @@
-use Rattle.std.proofs.Common.{◌≡◌, ℕ, ◌-◌, ◌<◌, List, length, set, sym, refl, ap, ◌∙◌, arith}
+use Rattle.std.proofs.Common.{◌-◌, ◌<◌, List, length, set, sym, refl, ap, ◌∙◌, arith}
 use Rattle.market.proofs.Placing.{take_out, take_refused, take_done, change_set, up_to_bounds}
 use Rattle.pools.specs.declared.book.Order.{Order}
 use Rattle.pools.specs.Books.{BookHeld, order_entry, lowered_order}
