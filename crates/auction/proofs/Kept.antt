@@ -15,7 +15,7 @@ use Rattle.market.specs.declared.fill.Reason.{Reason}
 use Rattle.market.specs.declared.fill.Reason.TheVariants.{CustomerStands, BetterStands, NoInterest}
 use Rattle.filling.specs.declared.interest.Interest.{Interest}
 use Rattle.filling.specs.Totals.{better, level, customer_at, other_at, contracts}
-use Rattle.filling.specs.Filling.{fill_down, left_over_fits}
+use Rattle.filling.specs.Filling.{fill_down, left_over}
 use Rattle.filling.specs.Fair as fairness
 use Rattle.filling.specs.Rules.{Fair}
 use Rattle.filling.specs.Mechanisms as count
@@ -272,7 +272,7 @@ module _ (o : Order) (ls : List Line) (lined : stands_in_line ls ≡ true) where
         facilitators_share = λ q. absurd (fac_sol o.mechanism q m);
         proportions = λ v p.
             common.in_proportion o ls lined own fs 0 fair v (for_others o ls v)
-            (subst (λ (a : ℕ). fairness.InProportion is fs v a) (let z : left_over_fits o.size is v ≡ for_others o ls v = omega (arith, none_reserved Solicited m refl) in z) (filling.in_proportion o.size is v));
+            (subst (λ (a : ℕ). fairness.InProportion is fs v a) (let z : left_over o.size is v ≡ for_others o ls v = omega (arith, none_reserved Solicited m refl) in z) (filling.in_proportion o.size is v));
         cancelled_when = record {
           customer = ((λ q. absurd (not_cancelled _ CustomerStands q)), (λ h. absurd (let z : ⊥ = omega (arith, h.3) in z)));
           better = ((λ q. absurd (not_cancelled _ BetterStands q)), (λ h. absurd (⊎_elim (λ c. h.2 c) (λ b. let z : ⊥ = omega (arith, h.1) in z) why)));
@@ -430,7 +430,7 @@ module _ (o : Order) (ls : List Line) (lined : stands_in_line ls ≡ true) where
             let lo = common.last_from o ls lined block_pays fs 0 fair v p in
             common.in_proportion o ls lined block_pays fs 0 fair v (for_others o ls v)
             (subst (λ (a : ℕ). fairness.InProportion is fs v a)
-            (let z : left_over_fits amount is v ≡ for_others o ls v =
+            (let z : left_over amount is v ≡ for_others o ls v =
             omega (arith, none_reserved Block m refl, level_from is g v lo, contracts_split (level v) (customer_at v) (other_at v) (level_splits v) is) in z)
             (filling.in_proportion amount is v));
         cancelled_when = record {

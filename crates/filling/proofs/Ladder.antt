@@ -1,15 +1,14 @@
 -- Filling down, a gain at a time.
-use Rattle.std.proofs.Common.{◌≡◌, ℕ, zero, suc, ◌+◌, ◌-◌, ◌<◌, ◌≤◌, min, Bool, true, false, cond, not, ◌&&◌, ◌⊎◌, List, [], ◌∷◌, ◌++◌, length, get_or, ℤ, pos, negsuc, ◌+ℤ◌, ◌≤ℤ◌, ◌<ℤ◌, sum, sym, refl, ap, ◌∙◌, subst, inl, inr, ⊎_elim, arith}
-use lib.Signed.{lt_z, le_z, mag}
+use Rattle.std.proofs.Common.{◌≡◌, ℕ, zero, suc, ◌+◌, ◌<◌, ◌≤◌, min, Bool, true, false, List, [], ◌∷◌, ◌++◌, length, ℤ, pos, negsuc, ◌+ℤ◌, ◌≤ℤ◌, ◌<ℤ◌, sum, refl, ap, arith}
+use lib.Signed.{mag}
 use Rattle.std.specs.List.{AllByRecursion as All}
-use Rattle.std.proofs.lemmas.Int.{ints, by_lt_z}
-use Rattle.std.proofs.lemmas.Bool.Decides.{nat_tests}
+use Rattle.std.proofs.lemmas.Int.{ints}
 use Rattle.std.proofs.ByRecursion.{All-weaker}
 use Rattle.std.proofs.lemmas.Bool.{cond-true, cond-false}
 use Rattle.filling.specs.declared.interest.Interest.{Interest}
-use Rattle.filling.specs.Totals.{better, level, customer_at, other_at, sizes, contracts, filled}
-use Rattle.filling.specs.Filling.{fill, fills_from, dealt, reaching, left_over_fits, fill_down}
-use Rattle.filling.proofs.Counting.{sum_cons, Splits, contracts_cons, contracts_split, filled_split, level_splits, level_is}
+use Rattle.filling.specs.Totals.{better, level, customer_at, other_at, contracts, filled}
+use Rattle.filling.specs.Filling.{fills_from, dealt, reaching, left_over, fill_down}
+use Rattle.filling.proofs.Counting.{sum_cons, Splits, contracts_cons, contracts_split, filled_split, level_splits}
 use Rattle.filling.proofs.Levels.{level_gets}
 
 pub better_splits : (v : ℤ) → Splits (better v) (better (v +ℤ pos 1)) (level (v +ℤ pos 1))
@@ -91,11 +90,11 @@ fills_long room pot ls before (l ∷ rest) = ap suc (fills_long room pot ls (bef
 pub dealt_long : (room pot : ℤ → ℕ) (ls : List Interest) → length (dealt room pot ls) ≡ length ls
 dealt_long room pot ls = fills_long room pot ls [] ls
 
-pub fills_down : (a : ℕ) (ls : List Interest) (v : ℤ) → Down (reaching a ls) (left_over_fits a ls) ls a v
+pub fills_down : (a : ℕ) (ls : List Interest) (v : ℤ) → Down (reaching a ls) (left_over a ls) ls a v
 fills_down a ls v w lt = (omega arith, omega (arith, contracts_split (level w) (customer_at w) (other_at w) (level_splits w) ls))
 
 pub fill_down_above : (a : ℕ) (ls : List Interest) (v : ℤ) → filled (better v) ls (fill_down a ls) ≡ min a (contracts (better v) ls)
-fill_down_above a ls v = down_to (reaching a ls) (left_over_fits a ls) ls a v (fills_down a ls v)
+fill_down_above a ls v = down_to (reaching a ls) (left_over a ls) ls a v (fills_down a ls v)
 
 pub fill_down_total : (a : ℕ) (ls : List Interest) → sum (fill_down a ls) ≡ min a (contracts (λ _. true) ls)
 fill_down_total a ls =
@@ -106,5 +105,5 @@ fill_down_total a ls =
       arith,
       fill_down_above a ls (negsuc n),
       all_pass (better (negsuc n)) ls each,
-      all_filled (better (negsuc n)) ls (fill_down a ls) (dealt_long (reaching a ls) (left_over_fits a ls) ls) each,
+      all_filled (better (negsuc n)) ls (fill_down a ls) (dealt_long (reaching a ls) (left_over a ls) ls) each,
     )
