@@ -1,11 +1,11 @@
 -- What fair fills of the lines come to on the blotter, whatever the mechanism.
-use Prim.Native.Nat.{ℕ, zero, suc, ◌+◌, ◌-◌, ◌*◌, ◌/◌, ◌<◌, ◌≤◌, min}
+use Prim.Native.Nat.{ℕ, zero, suc, ◌+◌, ◌-◌, ◌*◌, ◌/◌, ◌<◌, ◌≤◌}
 use mathlib.Core.Path.{◌≡◌, refl, sym, ap, subst, ◌∙◌}
-use mathlib.Core.Bool.{Bool, true, false, cond, not, ◌&&◌}
-use mathlib.Core.List.{List, [], ◌∷◌, ◌++◌, map}
+use mathlib.Core.Bool.{true, false, cond}
+use mathlib.Core.List.{List, [], ◌∷◌, ◌++◌}
 use mathlib.Core.Logic.{◌⊎◌, inl, inr, ⊎_elim}
 use native.Mathlib.Omega.{arith}
-use lib.Dec.{eqb, ltb}
+use lib.Dec.{eqb}
 use lib.IntN.{ℤ}
 use lib.ListN.{length, get_or}
 use lib.Signed.{◌<ℤ◌, ◌≤ℤ◌}
@@ -14,11 +14,10 @@ use Rattle.std.proofs.ByRecursion.{All-append}
 use Rattle.std.proofs.lemmas.List.{length-map}
 use Rattle.std.proofs.lemmas.Int.{ints, by_lt_z}
 use Rattle.std.proofs.lemmas.Bool.{cond-false, cases_lt, both_ways}
-use Rattle.std.specs.declared.option.Option.TheVariants.{Some, None}
+use Rattle.std.specs.declared.option.Option.TheVariants.{Some}
 use Rattle.market.specs.declared.fill.Party.{Party}
 use Rattle.market.specs.declared.fill.Party.TheVariants.{Contra}
 use Rattle.market.specs.declared.fill.Fill.{Fill}
-use Rattle.filling.specs.declared.interest.Interest.{Interest}
 use Rattle.filling.specs.Totals.{other_at}
 use Rattle.filling.specs.Fair as fairness
 use Rattle.filling.specs.Rules.{Fair}
@@ -30,7 +29,7 @@ use Rattle.auction.specs.Gains.{gain, is_customer}
 use Rattle.auction.specs.Lines.{Stands, same_party, gain_of, stated_gain, counted, interest_of, interest, contra_of, others_at, stands_in_line}
 use Rattle.auction.specs.Settlement.{noted, note_all, blotted, total, received}
 use Rattle.auction.specs.Promises.{Allowed, NobodyBeyond, Behind, CustomersFirst, CustomersInLine, BetterFirst, LastPrice, Agreed, AgreedPrice, InOrder, Once, BlotterOrder}
-use Rattle.auction.proofs.Noting.{all_nth, same_itself, same_back, total_append, received_append, total_noted, received_noted, total_all, received_none, received_at, each_noted, once_noted, once_more, order_noted}
+use Rattle.auction.proofs.Noting.{all_nth, same_back, total_append, received_append, total_noted, received_noted, total_all, received_none, received_at, each_noted, once_noted, once_more, order_noted}
 use Rattle.auction.proofs.Standing.{apart, no_contra, counted_either, counted_within, nth_more, nth_last, nth_mapped, nth_either}
 
 one_of : (fs : List ℕ) (i : ℕ) → get_or fs i 0 ≤ sum fs

@@ -1,8 +1,9 @@
 -- From an allocation to the blotter.
-use Rattle.std.proofs.Common.{◌≡◌, ℕ, ◌+◌, ◌<◌, ◌≤◌, Bool, true, false, cond, ◌&&◌, eqb, ltb, leb, List, [], ◌∷◌, ◌++◌, length, take, drop, ℤ, ◌≤ℤ◌, Ok, Err, Result, sym, refl, ap, ◌∙◌, subst, arith, length-append}
+use Rattle.std.proofs.Common.{◌≡◌, ℕ, ◌+◌, ◌≤◌, Bool, true, false, cond, ◌&&◌, eqb, ltb, leb, List, [], ◌∷◌, ◌++◌, length, take, drop, ℤ, ◌≤ℤ◌, Ok, Err, Result, sym, refl, ap, ◌∙◌, subst, arith, length-append}
 use mathlib.Core.Path.{fun_ext}
 use lib.Signed.{lt_z}
 use Rattle.std.specs.List.{AllByRecursion as All}
+use Rattle.std.proofs.Math.Seq.{take-append_seam}
 use Rattle.std.proofs.lemmas.List.{drop-drop, take-append-drop}
 use Rattle.std.proofs.lemmas.Int.{ints}
 use Rattle.std.proofs.lemmas.Bool.{cond_both, le-leb}
@@ -18,16 +19,16 @@ use Rattle.market.specs.declared.refusal.Refusal.TheVariants.{OutOfLimits}
 use Rattle.filling.specs.declared.interest.Interest.{Interest}
 use Rattle.filling.specs.Mechanisms as count
 use Rattle.deal.specs.declared.terms.Allocation.TheVariants.{Executed, Cancelled}
-use Rattle.deal.specs.Answers.{most_lines, block_answer, allocation_of, fills_in}
+use Rattle.deal.specs.Answers.{most_lines, allocation_of, fills_in}
 use Rattle.auction.specs.declared.order.Order.{Order}
 use Rattle.auction.specs.declared.line.Line.{Line}
-use Rattle.auction.specs.declared.blotter.Pricing.{Pricing}
-use Rattle.auction.specs.declared.blotter.Pricing.TheVariants.{Own, CustomersAt, AllAt}
+use Rattle.auction.specs.declared.blotter.Pricing.TheVariants.{Own, CustomersAt}
 use Rattle.auction.specs.Gains.{gain, is_customer}
-use Rattle.auction.specs.Lines.{gain_of, interest_of, interest, better_than}
+use Rattle.auction.specs.Lines.{gain_of, interest, better_than}
 use Rattle.auction.specs.Pricing.{paid, pricing_in, Priced}
-use Rattle.auction.specs.Settlement.{price_in, facilitation_price}
-use Rattle.auction.specs.Answers.{written_over}
+use Rattle.auction.specs.Settlement.{Outcome, executed, cancelled, price_in, fills_of, total}
+use Rattle.auction.specs.Promises.{OneSettlement}
+use Rattle.auction.specs.Answers.{answer_of, written_over, Keeps}
 
 -- the gain at a price within the limits is within them
 pub gain_within : (s : Side) (p : ℤ) → lowest_price ≤ℤ p → p ≤ℤ highest_price → (lowest_price ≤ℤ gain s p) × (gain s p ≤ℤ highest_price)
@@ -88,3 +89,11 @@ written_both old mid new xs ys a n ea front rest en both behind =
     let last : drop n new ≡ drop n old =
     behind ∙ ap (λ k. drop k mid) en ∙ sym (drop-drop (length ys) a mid) ∙ ap (drop (length ys)) rest ∙ drop-drop (length ys) a old ∙ ap (λ k. drop k old) (sym en) in
     (long, all, sym (take-append-drop n new) ∙ ap (λ l. l ++ drop n new) all ∙ ap (λ l. (xs ++ ys) ++ l) (last ∙ ap (λ k. drop k old) long))
+
+-- what a settlement promises holds of its answer and of the blotter that it wrote
+pub keeps_written : (o : Order) (ls : List Line) (out : Outcome) (blotter : List Fill) → OneSettlement o ls out →
+    Keeps o ls (Ok (answer_of out)) blotter (written_over (fills_of out) blotter)
+keeps_written o ls (executed fs) blotter k =
+    let e = sym (take-append_seam fs (drop (length fs) blotter)) in
+    (subst (λ xs. OneSettlement o ls (executed xs)) e k, ap total e, ap length e)
+keeps_written o ls (cancelled reason) blotter k = (k, refl)

@@ -1,5 +1,5 @@
 -- Who stands: nobody twice, and the contra apart.
-use Rattle.std.proofs.Common.{◌≡◌, ℕ, zero, suc, ◌+◌, ◌-◌, ◌<◌, ◌≤◌, min, Bool, true, false, cond, not, ◌&&◌, ◌||◌, eqb, leb, ◌⊎◌, List, [], ◌∷◌, ◌++◌, map, length, Some, None, sym, refl, ap, ◌∙◌, subst, inl, inr, ⊎_elim, arith}
+use Rattle.std.proofs.Common.{◌≡◌, ℕ, zero, suc, ◌+◌, ◌≤◌, min, true, false, cond, not, ◌&&◌, ◌||◌, leb, ◌⊎◌, List, [], ◌∷◌, ◌++◌, map, length, Some, sym, refl, ap, ◌∙◌, inl, inr, ⊎_elim, arith}
 use Rattle.std.specs.List.{AllByRecursion as All, slice_get}
 use Rattle.std.proofs.ByRecursion.{All-weaker}
 use Rattle.std.proofs.lemmas.Bool.{and_parts, or_parts, not-true, both_ways, ne_eqb, leb-true, cases_lt}
@@ -12,7 +12,7 @@ use Rattle.auction.specs.declared.line.Line.{Line}
 use Rattle.auction.specs.Limits.{most_members, most_slots}
 use Rattle.auction.specs.Gains.{is_pooled}
 use Rattle.auction.specs.Lines.{same_party, counted, has_line, may_stand, next_place, in_line_from, stands_in_line}
-use Rattle.auction.proofs.Noting.{Apart, Others, none_some, same_itself, same_back}
+use Rattle.auction.proofs.Noting.{Apart, Others, none_some, same_back}
 
 -- one who may stand behind lines, where entries stand from the place low on
 abbrev Beyond : ℕ → List Line → Party → Type 0

@@ -1,8 +1,7 @@
 -- What one settlement promises, of an order o against the lines ls, with what comes of it.
-use Rattle.std.specs.Prelude.{◌≡◌, ℕ, ◌+◌, ◌-◌, ◌*◌, ◌/◌, ◌<◌, ◌≤◌, min, max, Bool, true, false, cond, ◌⊎◌, List, [], ◌∷◌, ◌++◌, ℤ, ◌≤ℤ◌, ◌<ℤ◌, Some, ◌≢◌}
+use Rattle.std.specs.Prelude.{◌≡◌, ℕ, ◌+◌, ◌-◌, ◌*◌, ◌/◌, ◌<◌, ◌≤◌, min, max, true, false, cond, ◌⊎◌, List, [], ◌∷◌, ◌++◌, ℤ, ◌≤ℤ◌, ◌<ℤ◌, Some, ◌≢◌}
 use Rattle.std.specs.List.{AllByRecursion as All, slice_get}
 use Rattle.market.specs.declared.names.Mechanism.TheVariants.{Block, Facilitation, Solicited}
-use Rattle.market.specs.declared.fill.Party.{Party}
 use Rattle.market.specs.declared.fill.Party.TheVariants.{Contra}
 use Rattle.market.specs.declared.fill.Fill.{Fill}
 use Rattle.market.specs.declared.fill.Reason.{Reason}
@@ -12,7 +11,7 @@ use Rattle.auction.specs.declared.line.Line.{Line}
 use Rattle.auction.specs.Limits.{is_facilitation}
 use Rattle.auction.specs.Gains.{gain, is_customer, is_pooled}
 use Rattle.auction.specs.Lines.{same_party, gain_of, stated_gain, reserved_of, counted, contra_of, Stands, better_than, from_gain, customers_at, others_at}
-use Rattle.auction.specs.Settlement.{Outcome, executed, cancelled, fills_of, total, received, filled_by, cancelled_by}
+use Rattle.auction.specs.Settlement.{Outcome, cancelled, fills_of, total, received, filled_by, cancelled_by}
 
 -- what happens exactly when something holds
 abbrev pub Exactly : Type 0 → Type 0 → Type 0
