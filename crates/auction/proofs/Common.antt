@@ -9,7 +9,7 @@ use lib.Dec.{eqb}
 use lib.IntN.{ℤ}
 use lib.ListN.{length, get_or}
 use lib.Signed.{◌<ℤ◌, ◌≤ℤ◌}
-use Rattle.std.specs.List.{sum, AllByRecursion as All, slice_get}
+use Rattle.std.specs.List.{sum, AllByRecursion, slice_get}
 use Rattle.std.proofs.ByRecursion.{All-append}
 use Rattle.std.proofs.lemmas.List.{length-map}
 use Rattle.std.proofs.lemmas.Int.{ints, by_lt_z}
@@ -51,9 +51,9 @@ nth_same : {X : Type 0} (xs : List X) (i : ℕ) (x y : X) → slice_get xs i ≡
 nth_same xs i x y p q = cc
 
 -- a test of one blotter line, where there is one
-one_line : (Q : Fill → Type 0) (who : Party) (price : ℤ) (n : ℕ) → (1 ≤ n → Q (record { party = who; price = price; contracts = n })) → All Q (noted who price n)
+one_line : (Q : Fill → Type 0) (who : Party) (price : ℤ) (n : ℕ) → (1 ≤ n → Q (record { party = who; price = price; contracts = n })) → AllByRecursion Q (noted who price n)
 one_line Q who price n h =
-    elim (eqb n 0) as (λ b. (b ≡ false → 1 ≤ n) → All Q (cond b [] (record { party = who; price = price; contracts = n } ∷ [])))
+    elim (eqb n 0) as (λ b. (b ≡ false → 1 ≤ n) → AllByRecursion Q (cond b [] (record { party = who; price = price; contracts = n } ∷ [])))
     [ true ↦ (λ u. tt) | false ↦ (λ u. (h (u refl), tt)) ] (λ u. let z : 1 ≤ n = grind arith in z)
 
 module _ (o : Order) (ls : List Line) (lined : stands_in_line ls ≡ true)
@@ -103,14 +103,14 @@ module _ (o : Order) (ls : List Line) (lined : stands_in_line ls ≡ true)
 
   -- what holds of each blotter line: of the lines' and of the contra's
   each_line : (Q : Fill → Type 0) → ((i : ℕ) (k : Line) → slice_get ls i ≡ Some k → 1 ≤ get_or fs i 0 → Q (record { party = k.party; price = pays k; contracts = get_or fs i 0 }))
-      → (1 ≤ contra → Q (record { party = Contra; price = o.price; contracts = contra })) → All Q lines
+      → (1 ≤ contra → Q (record { party = Contra; price = o.price; contracts = contra })) → AllByRecursion Q lines
   each_line Q h c = All-append Q (note_all pays ls fs) (noted Contra o.price contra) (each_noted pays Q ls fs h) (one_line Q Contra o.price contra c)
 
   -- prices that are no worse than the order's and the line's own
   abbrev pub GoodPrices : Type 0
   GoodPrices = (i : ℕ) (k : Line) → slice_get ls i ≡ Some k → 1 ≤ get_or fs i 0 → (gain_of o ≤ℤ gain o.side (pays k)) × (gain o.side (pays k) ≤ℤ stated_gain o k)
 
-  allowed : GoodPrices → All (Allowed o ls) lines
+  allowed : GoodPrices → AllByRecursion (Allowed o ls) lines
   allowed good =
       each_line (Allowed o ls)
       (λ i k e u. record {
@@ -207,7 +207,7 @@ module _ (o : Order) (ls : List Line) (lined : stands_in_line ls ≡ true)
   once =
       once_more (note_all pays ls fs) (noted Contra o.price contra) (once_noted pays ls fs (apart ls lined))
       (elim (eqb contra 0) as (λ b. Once (cond b [] (record { party = Contra; price = o.price; contracts = contra } ∷ []))) [ true ↦ tt | false ↦ (tt, tt) ])
-      (each_noted pays (λ f. All (λ h. same_party f.party h.party ≡ false) (noted Contra o.price contra)) ls fs
+      (each_noted pays (λ f. AllByRecursion (λ h. same_party f.party h.party ≡ false) (noted Contra o.price contra)) ls fs
       (λ i k e u. one_line (λ h. same_party k.party h.party ≡ false) Contra o.price contra (λ _. not_contra i k e)))
 
   in_order : InOrder (ls ++ contra_of o ∷ []) lines
@@ -236,5 +236,5 @@ module _ (o : Order) (ls : List Line) (lined : stands_in_line ls ≡ true)
       (h s.0 (interest_of o k) (nth_mapped (interest_of o) ls s.0 k s.1) t)
 
   -- where all are filled at one price
-  pub all_priced : (price : ℤ) → ((k : Line) → pays k ≡ price) → contra ≡ 0 → All (λ f. f.price ≡ price) lines
+  pub all_priced : (price : ℤ) → ((k : Line) → pays k ≡ price) → contra ≡ 0 → AllByRecursion (λ f. f.price ≡ price) lines
   all_priced price h none = each_line (λ f. f.price ≡ price) (λ i k e u. h k) (λ u. absurd (let z : ⊥ = omega arith in z))

@@ -2,7 +2,7 @@
 use Rattle.std.proofs.Common.{◌≡◌, ℕ, ◌+◌, ◌≤◌, Bool, true, false, cond, ◌&&◌, eqb, ltb, leb, List, [], ◌∷◌, ◌++◌, length, take, drop, ℤ, ◌≤ℤ◌, Ok, Err, Result, sym, refl, ap, ◌∙◌, subst, arith, length-append}
 use mathlib.Core.Path.{fun_ext}
 use lib.Signed.{lt_z}
-use Rattle.std.specs.List.{AllByRecursion as All}
+use Rattle.std.specs.List.{AllByRecursion}
 use Rattle.std.proofs.Math.Seq.{take-append_seam}
 use Rattle.std.proofs.lemmas.List.{drop-drop, take-append-drop}
 use Rattle.std.proofs.lemmas.Int.{ints}
@@ -35,12 +35,12 @@ pub gain_within : (s : Side) (p : ℤ) → lowest_price ≤ℤ p → p ≤ℤ hi
 gain_within Sell p l h = (l, h)
 gain_within Buy p l h = (omega (arith, ints), omega (arith, ints))
 
-pub all_priced : (o : Order) (ls : List Line) → All Priced (interest o ls)
+pub all_priced : (o : Order) (ls : List Line) → AllByRecursion Priced (interest o ls)
 all_priced o [] = tt
 all_priced o (l ∷ ls) = let w = gain_within o.side l.price l.low l.high in (record { low = w.0; high = w.1 }, all_priced o ls)
 
 -- the block's gain is one of the gains
-best_priced : (Z : ℕ) (g : ℤ) (is : List Interest) (b : ℤ) (xs : List Interest) → lowest_price ≤ℤ b → b ≤ℤ highest_price → All Priced xs →
+best_priced : (Z : ℕ) (g : ℤ) (is : List Interest) (b : ℤ) (xs : List Interest) → lowest_price ≤ℤ b → b ≤ℤ highest_price → AllByRecursion Priced xs →
     (lowest_price ≤ℤ count.best_from Z g is b xs) × (count.best_from Z g is b xs ≤ℤ highest_price)
 best_priced Z g is b [] l h a = (l, h)
 best_priced Z g is b (x ∷ xs) l h a =
@@ -49,7 +49,7 @@ best_priced Z g is b (x ∷ xs) l h a =
     (cond_both t x.gain b (λ v. lowest_price ≤ℤ v) (λ _. a.0.low) (λ _. l))
     (cond_both t x.gain b (λ v. v ≤ℤ highest_price) (λ _. a.0.high) (λ _. h)) a.1
 
-pub block_priced : (o : Order) (is : List Interest) → All Priced is →
+pub block_priced : (o : Order) (is : List Interest) → AllByRecursion Priced is →
     (lowest_price ≤ℤ count.block_gain o.size (gain_of o) is) × (count.block_gain o.size (gain_of o) is ≤ℤ highest_price)
 block_priced o is a = let w = gain_within o.side o.price o.low o.high in best_priced o.size (gain_of o) is (gain_of o) is w.0 w.1 a
 

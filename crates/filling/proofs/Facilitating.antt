@@ -2,7 +2,7 @@
 use Rattle.std.proofs.Common.{◌≡◌, ℕ, suc, ◌+◌, ◌-◌, ◌<◌, ◌≤◌, Bool, true, false, cond, List, [], ◌∷◌, get_or, ℤ, ◌≤ℤ◌, ◌<ℤ◌, Some, sum, refl, ap, ◌∙◌, subst, ⊎_elim, arith}
 use mathlib.Core.Path.{fun_ext}
 use lib.Signed.{lt_z, le_z}
-use Rattle.std.specs.List.{AllByRecursion as All, slice_get}
+use Rattle.std.specs.List.{AllByRecursion, slice_get}
 use Rattle.std.proofs.lemmas.Int.{ints, by_lt_z}
 use Rattle.std.proofs.lemmas.Bool.{cases_Bool, cond-true, cond-false}
 use Rattle.filling.specs.declared.interest.Interest.{Interest}
@@ -40,7 +40,7 @@ zero_filled p (l ∷ ls) (f ∷ fs) h =
     (λ t. omega (arith, ih, cond-false (p l) f 0 t))
     (cases_Bool (p l))
 
-all_true : (ls : List Interest) → All (λ _. true ≡ true) ls
+all_true : (ls : List Interest) → AllByRecursion (λ _. true ≡ true) ls
 all_true [] = tt
 all_true (l ∷ ls) = (refl, all_true ls)
 

@@ -1,7 +1,7 @@
 -- Solicited orders and blocks.
 use Rattle.std.proofs.Common.{◌≡◌, ℕ, zero, suc, ◌<◌, ◌≤◌, Bool, true, false, cond, ◌&&◌, eqb, leb, ◌⊎◌, List, [], ◌∷◌, get_or, ℤ, ◌≤ℤ◌, ◌<ℤ◌, Some, sum, sym, refl, ap, ◌∙◌, inl, inr, ⊎_elim, arith}
 use lib.Signed.{lt_z, le_z}
-use Rattle.std.specs.List.{AllByRecursion as All, slice_get}
+use Rattle.std.specs.List.{AllByRecursion, slice_get}
 use Rattle.std.proofs.lemmas.List.{length-map}
 use Rattle.std.proofs.ByRecursion.{All-weaker}
 use Rattle.std.proofs.lemmas.Int.{ints, by_lt_z}
@@ -147,7 +147,7 @@ module _ (Z : ℕ) (g : ℤ) (ls : List Interest) where
       omega (arith, ints)
   covers b (x ∷ xs) (suc i) l e h = covers (cond (lt_z b x.gain && eqb (executing Z ls x.gain) (executing Z ls g)) x.gain b) xs i l e h
 
-contracts_same : (p q : Interest → Bool) (ls : List Interest) → All (λ l. p l ≡ q l) ls → contracts p ls ≡ contracts q ls
+contracts_same : (p q : Interest → Bool) (ls : List Interest) → AllByRecursion (λ l. p l ≡ q l) ls → contracts p ls ≡ contracts q ls
 contracts_same p q [] h = refl
 contracts_same p q (l ∷ ls) h = omega (arith, contracts_cons p l ls, contracts_cons q l ls, ap (λ b. cond b l.size 0) h.0, contracts_same p q ls h.1)
 
@@ -156,9 +156,9 @@ tests_same v g m h f = by_lt_z m v (λ lt. grind (arith, ints)) (λ le. let k = 
 
 -- the lowest of the lines from v on
 abbrev Lowest : ℤ → List Interest → Type 0
-Lowest v ls = (i : ℕ) × (l : Interest) × (slice_get ls i ≡ Some l) × (v ≤ℤ l.gain) × All (λ m. v ≤ℤ m.gain → l.gain ≤ℤ m.gain) ls
+Lowest v ls = (i : ℕ) × (l : Interest) × (slice_get ls i ≡ Some l) × (v ≤ℤ l.gain) × AllByRecursion (λ m. v ≤ℤ m.gain → l.gain ≤ℤ m.gain) ls
 
-lowest : (v : ℤ) (ls : List Interest) → All (λ l. l.gain <ℤ v) ls ⊎ Lowest v ls
+lowest : (v : ℤ) (ls : List Interest) → AllByRecursion (λ l. l.gain <ℤ v) ls ⊎ Lowest v ls
 lowest v [] = inl tt
 lowest v (x ∷ ls) =
     by_lt_z x.gain v

@@ -1,5 +1,5 @@
 use Rattle.std.proofs.Common.{◌≡◌, ℕ, ◌<◌, ◌≤◌, true, cond, eqb, leb, List, length, ℤ, Ok, Err, Result, sym, ap, ◌∙◌, subst, arith}
-use Rattle.std.specs.List.{AllByRecursion as All}
+use Rattle.std.specs.List.{AllByRecursion}
 use Rattle.std.proofs.lemmas.List.{length-map}
 use Rattle.std.proofs.lemmas.Bool.{and_parts, and_from, leb-true, le-leb, eq-eqb}
 use Rattle.market.specs.declared.refusal.Refusal.{Refusal}
@@ -77,7 +77,7 @@ pricing_of-pricing-requires c =
     let ls = c.args.lines.now in
     let n = ap length c.requires.counted ∙ length-map ls (interest_of o) in
     let f = leb-true (length ls) 128 (and_parts (leb (length ls) 128) (stands_in_line ls) c.requires.stand).0 in
-    record { few = omega (arith, n, f); priced = subst (All Priced) (sym c.requires.counted) (all_priced o ls) }
+    record { few = omega (arith, n, f); priced = subst (AllByRecursion Priced) (sym c.requires.counted) (all_priced o ls) }
 
 pub write_fills-requires : goal.write_fills-requires
 write_fills-requires c =
