@@ -1,24 +1,23 @@
 -- What fair fills of the lines come to on the blotter, whatever the mechanism.
-use Prim.Native.Nat.{ℕ, zero, suc, ◌+◌, ◌-◌, ◌*◌, ◌/◌, ◌<◌, ◌≤◌, min}
+use Prim.Native.Nat.{ℕ, zero, suc, ◌+◌, ◌-◌, ◌*◌, ◌/◌, ◌<◌, ◌≤◌}
 use mathlib.Core.Path.{◌≡◌, refl, sym, ap, subst, ◌∙◌}
-use mathlib.Core.Bool.{Bool, true, false, cond, not, ◌&&◌}
-use mathlib.Core.List.{List, [], ◌∷◌, ◌++◌, map}
+use mathlib.Core.Bool.{true, false, cond}
+use mathlib.Core.List.{List, [], ◌∷◌, ◌++◌}
 use mathlib.Core.Logic.{◌⊎◌, inl, inr, ⊎_elim}
 use native.Mathlib.Omega.{arith}
-use lib.Dec.{eqb, ltb}
+use lib.Dec.{eqb}
 use lib.IntN.{ℤ}
 use lib.ListN.{length, get_or}
 use lib.Signed.{◌<ℤ◌, ◌≤ℤ◌}
-use Rattle.std.specs.List.{sum, AllByRecursion as All, slice_get}
+use Rattle.std.specs.List.{sum, AllByRecursion, slice_get}
 use Rattle.std.proofs.ByRecursion.{All-append}
 use Rattle.std.proofs.lemmas.List.{length-map}
 use Rattle.std.proofs.lemmas.Int.{ints, by_lt_z}
 use Rattle.std.proofs.lemmas.Bool.{cond-false, cases_lt, both_ways}
-use Rattle.std.specs.declared.option.Option.TheVariants.{Some, None}
+use Rattle.std.specs.declared.option.Option.TheVariants.{Some}
 use Rattle.market.specs.declared.fill.Party.{Party}
 use Rattle.market.specs.declared.fill.Party.TheVariants.{Contra}
 use Rattle.market.specs.declared.fill.Fill.{Fill}
-use Rattle.filling.specs.declared.interest.Interest.{Interest}
 use Rattle.filling.specs.Totals.{other_at}
 use Rattle.filling.specs.Fair as fairness
 use Rattle.filling.specs.Rules.{Fair}
@@ -30,7 +29,7 @@ use Rattle.auction.specs.Gains.{gain, is_customer}
 use Rattle.auction.specs.Lines.{Stands, same_party, gain_of, stated_gain, counted, interest_of, interest, contra_of, others_at, stands_in_line}
 use Rattle.auction.specs.Settlement.{noted, note_all, blotted, total, received}
 use Rattle.auction.specs.Promises.{Allowed, NobodyBeyond, Behind, CustomersFirst, CustomersInLine, BetterFirst, LastPrice, Agreed, AgreedPrice, InOrder, Once, BlotterOrder}
-use Rattle.auction.proofs.Noting.{all_nth, same_itself, same_back, total_append, received_append, total_noted, received_noted, total_all, received_none, received_at, each_noted, once_noted, once_more, order_noted}
+use Rattle.auction.proofs.Noting.{all_nth, same_back, total_append, received_append, total_noted, received_noted, total_all, received_none, received_at, each_noted, once_noted, once_more, order_noted}
 use Rattle.auction.proofs.Standing.{apart, no_contra, counted_either, counted_within, nth_more, nth_last, nth_mapped, nth_either}
 
 one_of : (fs : List ℕ) (i : ℕ) → get_or fs i 0 ≤ sum fs
@@ -52,9 +51,9 @@ nth_same : {X : Type 0} (xs : List X) (i : ℕ) (x y : X) → slice_get xs i ≡
 nth_same xs i x y p q = cc
 
 -- a test of one blotter line, where there is one
-one_line : (Q : Fill → Type 0) (who : Party) (price : ℤ) (n : ℕ) → (1 ≤ n → Q (record { party = who; price = price; contracts = n })) → All Q (noted who price n)
+one_line : (Q : Fill → Type 0) (who : Party) (price : ℤ) (n : ℕ) → (1 ≤ n → Q (record { party = who; price = price; contracts = n })) → AllByRecursion Q (noted who price n)
 one_line Q who price n h =
-    elim (eqb n 0) as (λ b. (b ≡ false → 1 ≤ n) → All Q (cond b [] (record { party = who; price = price; contracts = n } ∷ [])))
+    elim (eqb n 0) as (λ b. (b ≡ false → 1 ≤ n) → AllByRecursion Q (cond b [] (record { party = who; price = price; contracts = n } ∷ [])))
     [ true ↦ (λ u. tt) | false ↦ (λ u. (h (u refl), tt)) ] (λ u. let z : 1 ≤ n = grind arith in z)
 
 module _ (o : Order) (ls : List Line) (lined : stands_in_line ls ≡ true)
@@ -104,14 +103,14 @@ module _ (o : Order) (ls : List Line) (lined : stands_in_line ls ≡ true)
 
   -- what holds of each blotter line: of the lines' and of the contra's
   each_line : (Q : Fill → Type 0) → ((i : ℕ) (k : Line) → slice_get ls i ≡ Some k → 1 ≤ get_or fs i 0 → Q (record { party = k.party; price = pays k; contracts = get_or fs i 0 }))
-      → (1 ≤ contra → Q (record { party = Contra; price = o.price; contracts = contra })) → All Q lines
+      → (1 ≤ contra → Q (record { party = Contra; price = o.price; contracts = contra })) → AllByRecursion Q lines
   each_line Q h c = All-append Q (note_all pays ls fs) (noted Contra o.price contra) (each_noted pays Q ls fs h) (one_line Q Contra o.price contra c)
 
   -- prices that are no worse than the order's and the line's own
   abbrev pub GoodPrices : Type 0
   GoodPrices = (i : ℕ) (k : Line) → slice_get ls i ≡ Some k → 1 ≤ get_or fs i 0 → (gain_of o ≤ℤ gain o.side (pays k)) × (gain o.side (pays k) ≤ℤ stated_gain o k)
 
-  allowed : GoodPrices → All (Allowed o ls) lines
+  allowed : GoodPrices → AllByRecursion (Allowed o ls) lines
   allowed good =
       each_line (Allowed o ls)
       (λ i k e u. record {
@@ -208,7 +207,7 @@ module _ (o : Order) (ls : List Line) (lined : stands_in_line ls ≡ true)
   once =
       once_more (note_all pays ls fs) (noted Contra o.price contra) (once_noted pays ls fs (apart ls lined))
       (elim (eqb contra 0) as (λ b. Once (cond b [] (record { party = Contra; price = o.price; contracts = contra } ∷ []))) [ true ↦ tt | false ↦ (tt, tt) ])
-      (each_noted pays (λ f. All (λ h. same_party f.party h.party ≡ false) (noted Contra o.price contra)) ls fs
+      (each_noted pays (λ f. AllByRecursion (λ h. same_party f.party h.party ≡ false) (noted Contra o.price contra)) ls fs
       (λ i k e u. one_line (λ h. same_party k.party h.party ≡ false) Contra o.price contra (λ _. not_contra i k e)))
 
   in_order : InOrder (ls ++ contra_of o ∷ []) lines
@@ -237,5 +236,5 @@ module _ (o : Order) (ls : List Line) (lined : stands_in_line ls ≡ true)
       (h s.0 (interest_of o k) (nth_mapped (interest_of o) ls s.0 k s.1) t)
 
   -- where all are filled at one price
-  pub all_priced : (price : ℤ) → ((k : Line) → pays k ≡ price) → contra ≡ 0 → All (λ f. f.price ≡ price) lines
+  pub all_priced : (price : ℤ) → ((k : Line) → pays k ≡ price) → contra ≡ 0 → AllByRecursion (λ f. f.price ≡ price) lines
   all_priced price h none = each_line (λ f. f.price ≡ price) (λ i k e u. h k) (λ u. absurd (let z : ⊥ = omega arith in z))

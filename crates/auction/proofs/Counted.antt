@@ -1,5 +1,5 @@
 -- Lines as they are counted.
-use Rattle.std.proofs.Common.{◌≡◌, ℕ, ◌+◌, ◌<◌, ◌≤◌, Bool, true, false, cond, leb, List, [], ◌∷◌, ◌++◌, map, length, get_or, take, set, sym, refl, ap, ◌∙◌, arith}
+use Rattle.std.proofs.Common.{◌≡◌, ℕ, ◌+◌, ◌<◌, ◌≤◌, true, List, [], ◌∷◌, ◌++◌, map, length, get_or, take, set, sym, ap, ◌∙◌, arith}
 use mathlib.Core.HLevel.{is_prop→PathP}
 use native.Mathlib.Bridge.{le_prop}
 use Rattle.std.proofs.lemmas.List.{take_more, take_all, take_more_set, map-append}
@@ -8,7 +8,7 @@ use Rattle.market.specs.Limits.{most_size}
 use Rattle.market.specs.declared.names.Mechanism.{Mechanism}
 use Rattle.market.specs.declared.names.Mechanism.TheVariants.{Block, Facilitation, Solicited}
 use Rattle.filling.specs.declared.interest.Interest.{Interest}
-use Rattle.auction.specs.Limits.{most_reserve, reserve_ok, is_facilitation}
+use Rattle.auction.specs.Limits.{most_reserve, reserve_ok}
 
 -- interest with the same fields is the same
 pub interest_same : (a b : Interest) → a.gain ≡ b.gain → a.size ≡ b.size → a.customer ≡ b.customer → a.pooled ≡ b.pooled → a ≡ b

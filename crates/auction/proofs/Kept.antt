@@ -1,21 +1,19 @@
 -- What each mechanism keeps.
-use Rattle.std.proofs.Common.{◌≡◌, ℕ, zero, suc, ◌+◌, ◌-◌, ◌*◌, ◌/◌, ◌<◌, ◌≤◌, min, max, Bool, true, false, cond, not, ◌&&◌, ◌||◌, eqb, ltb, leb, ◌⊎◌, List, [], ◌∷◌, ◌++◌, map, length, get_or, ℤ, neg_ℤ, ◌≤ℤ◌, ◌<ℤ◌, Some, None, sum, sym, refl, ap, ◌∙◌, subst, inl, inr, ⊎_elim, arith}
+use Rattle.std.proofs.Common.{◌≡◌, ℕ, zero, suc, ◌+◌, ◌-◌, ◌<◌, ◌≤◌, min, Bool, true, false, cond, ◌&&◌, eqb, ltb, leb, ◌⊎◌, List, [], ◌∷◌, ◌++◌, get_or, ℤ, ◌≤ℤ◌, ◌<ℤ◌, sym, refl, ap, ◌∙◌, subst, inl, inr, ⊎_elim, arith}
 use lib.IntN.{neg_ℤ-neg_ℤ}
 use lib.Signed.{lt_z, le_z}
-use Rattle.std.specs.List.{AllByRecursion as All, slice_get}
 use Rattle.std.proofs.lemmas.Int.{ints, by_lt_z}
 use Rattle.std.proofs.lemmas.Bool.{cond-true, cond-false, cond_both, leb-true, leb-false, eqb-true, eqb-false, and_parts, and_from, or_cases, or_parts, both_ways, cases_lt, lt-ltb, le-ltb}
 use Rattle.market.specs.declared.names.Side.{Side}
 use Rattle.market.specs.declared.names.Side.TheVariants.{Buy, Sell}
 use Rattle.market.specs.declared.names.Mechanism.{Mechanism}
 use Rattle.market.specs.declared.names.Mechanism.TheVariants.{Block, Facilitation, Solicited}
-use Rattle.market.specs.declared.fill.Party.TheVariants.{Contra}
 use Rattle.market.specs.declared.fill.Fill.{Fill}
 use Rattle.market.specs.declared.fill.Reason.{Reason}
 use Rattle.market.specs.declared.fill.Reason.TheVariants.{CustomerStands, BetterStands, NoInterest}
 use Rattle.filling.specs.declared.interest.Interest.{Interest}
 use Rattle.filling.specs.Totals.{better, level, customer_at, other_at, contracts}
-use Rattle.filling.specs.Filling.{fill_down, left_over_fits}
+use Rattle.filling.specs.Filling.{fill_down, left_over}
 use Rattle.filling.specs.Fair as fairness
 use Rattle.filling.specs.Rules.{Fair}
 use Rattle.filling.specs.Mechanisms as count
@@ -27,9 +25,9 @@ use Rattle.auction.specs.declared.order.Order.{Order}
 use Rattle.auction.specs.declared.line.Line.{Line}
 use Rattle.auction.specs.Limits.{is_facilitation}
 use Rattle.auction.specs.Gains.{gain, is_customer, is_pooled}
-use Rattle.auction.specs.Lines.{Stands, gain_of, stated_gain, reserved_of, interest_of, interest, contra_of, better_than, from_gain, customers_at, others_at, stands_in_line}
-use Rattle.auction.specs.Settlement.{Outcome, executed, cancelled, blotted, answered, own, facilitation_price, block_price, settle_as, settlement, fills_of, total, received}
-use Rattle.auction.specs.Promises.{executes, Conserved, NobodyBeyond, CustomerThere, BetterThere, left_at, reserved_taken, for_others, LastPrice, InProportion, CancelledWhen, BlockPrice, BlockPriced, Agreed, AgreedPrice, CrossedWhen, BlotterOrder, OneSettlement}
+use Rattle.auction.specs.Lines.{Stands, gain_of, stated_gain, reserved_of, interest_of, interest, contra_of, better_than, from_gain, stands_in_line}
+use Rattle.auction.specs.Settlement.{Outcome, executed, cancelled, blotted, answered, own, facilitation_price, block_price, settle_as, settlement}
+use Rattle.auction.specs.Promises.{executes, Conserved, CustomerThere, BetterThere, left_at, reserved_taken, for_others, LastPrice, CancelledWhen, BlockPriced, Agreed, CrossedWhen, OneSettlement}
 use Rattle.auction.proofs.Noting.{none_some, order_none}
 use Rattle.auction.proofs.Standing.{nth_mapped}
 use Rattle.auction.proofs.Common as common
@@ -272,7 +270,7 @@ module _ (o : Order) (ls : List Line) (lined : stands_in_line ls ≡ true) where
         facilitators_share = λ q. absurd (fac_sol o.mechanism q m);
         proportions = λ v p.
             common.in_proportion o ls lined own fs 0 fair v (for_others o ls v)
-            (subst (λ (a : ℕ). fairness.InProportion is fs v a) (let z : left_over_fits o.size is v ≡ for_others o ls v = omega (arith, none_reserved Solicited m refl) in z) (filling.in_proportion o.size is v));
+            (subst (λ (a : ℕ). fairness.InProportion is fs v a) (let z : left_over o.size is v ≡ for_others o ls v = omega (arith, none_reserved Solicited m refl) in z) (filling.in_proportion o.size is v));
         cancelled_when = record {
           customer = ((λ q. absurd (not_cancelled _ CustomerStands q)), (λ h. absurd (let z : ⊥ = omega (arith, h.3) in z)));
           better = ((λ q. absurd (not_cancelled _ BetterStands q)), (λ h. absurd (⊎_elim (λ c. h.2 c) (λ b. let z : ⊥ = omega (arith, h.1) in z) why)));
@@ -430,7 +428,7 @@ module _ (o : Order) (ls : List Line) (lined : stands_in_line ls ≡ true) where
             let lo = common.last_from o ls lined block_pays fs 0 fair v p in
             common.in_proportion o ls lined block_pays fs 0 fair v (for_others o ls v)
             (subst (λ (a : ℕ). fairness.InProportion is fs v a)
-            (let z : left_over_fits amount is v ≡ for_others o ls v =
+            (let z : left_over amount is v ≡ for_others o ls v =
             omega (arith, none_reserved Block m refl, level_from is g v lo, contracts_split (level v) (customer_at v) (other_at v) (level_splits v) is) in z)
             (filling.in_proportion amount is v));
         cancelled_when = record {

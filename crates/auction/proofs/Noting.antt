@@ -1,7 +1,7 @@
 -- Fills of lines, and the blotter lines that they make.
-use Rattle.std.proofs.Common.{◌≡◌, ℕ, zero, suc, ◌+◌, ◌-◌, ◌<◌, ◌≤◌, min, Bool, true, false, cond, not, ◌&&◌, eqb, ltb, ◌⊎◌, List, [], ◌∷◌, ◌++◌, map, length, get_or, ℤ, Some, None, sum, Option, sym, refl, ap, ◌∙◌, subst, inl, inr, ⊎_elim, arith}
-use Rattle.std.specs.List.{AllByRecursion as All, slice_get}
-use Rattle.std.proofs.lemmas.Bool.{cases_eq, cases_Bool, cond-true, cond-false, eq-eqb, eqb-true}
+use Rattle.std.proofs.Common.{◌≡◌, ℕ, zero, suc, ◌+◌, ◌≤◌, true, false, cond, eqb, List, [], ◌∷◌, ◌++◌, length, get_or, ℤ, Some, None, sum, Option, sym, refl, ap, ◌∙◌, subst, inl, inr, arith}
+use Rattle.std.specs.List.{AllByRecursion, slice_get}
+use Rattle.std.proofs.lemmas.Bool.{cond-true, cond-false, eqb-true}
 use Rattle.market.specs.declared.fill.Party.{Party}
 use Rattle.market.specs.declared.fill.Party.TheVariants.{Entry, Response, Contra}
 use Rattle.market.specs.declared.fill.Fill.{Fill}
@@ -39,13 +39,13 @@ same_back Contra Contra = refl
 -- nobody stands twice
 abbrev pub Apart : List Line → Type 0
 Apart [] = Unit {0}
-Apart (i ∷ is) = All (λ k. same_party i.party k.party ≡ false) is × Apart is
+Apart (i ∷ is) = AllByRecursion (λ k. same_party i.party k.party ≡ false) is × Apart is
 
 -- somebody else than p
 abbrev pub Others : Party → List Line → Type 0
-Others p is = All (λ k. same_party p k.party ≡ false) is
+Others p is = AllByRecursion (λ k. same_party p k.party ≡ false) is
 
-pub all_nth : {X : Type 0} (P : X → Type 0) (xs : List X) (i : ℕ) (x : X) → slice_get xs i ≡ Some x → All P xs → P x
+pub all_nth : {X : Type 0} (P : X → Type 0) (xs : List X) (i : ℕ) (x : X) → slice_get xs i ≡ Some x → AllByRecursion P xs → P x
 all_nth P [] i x e a = absurd (none_some x e)
 all_nth P (y ∷ xs) zero x e a = subst P (let s : y ≡ x = cc in s) a.0
 all_nth P (y ∷ xs) (suc i) x e a = all_nth P xs i x e a.1
@@ -127,12 +127,12 @@ module _ (pays : Line → ℤ) where
   -- what holds of the blotter line of each line that is filled
   pub each_noted : (Q : Fill → Type 0) (is : List Line) (fs : List ℕ)
       → ((i : ℕ) (k : Line) → slice_get is i ≡ Some k → 1 ≤ get_or fs i 0 → Q (record { party = k.party; price = pays k; contracts = get_or fs i 0 }))
-      → All Q (note_all pays is fs)
+      → AllByRecursion Q (note_all pays is fs)
   each_noted Q [] fs h = tt
   each_noted Q (x ∷ is) [] h = tt
   each_noted Q (x ∷ is) (f ∷ fs) h =
-      let later : All Q (note_all pays is fs) = each_noted Q is fs (λ i. h (suc i)) in
-      elim (eqb f 0) as (λ b. (b ≡ false → 1 ≤ f) → All Q (cond b [] (record { party = x.party; price = pays x; contracts = f } ∷ []) ++ note_all pays is fs))
+      let later : AllByRecursion Q (note_all pays is fs) = each_noted Q is fs (λ i. h (suc i)) in
+      elim (eqb f 0) as (λ b. (b ≡ false → 1 ≤ f) → AllByRecursion Q (cond b [] (record { party = x.party; price = pays x; contracts = f } ∷ []) ++ note_all pays is fs))
       [ true ↦ (λ u. later) | false ↦ (λ u. (h 0 x refl (u refl), later)) ] (λ u. let z : 1 ≤ f = grind arith in z)
 
   pub once_noted : (is : List Line) (fs : List ℕ) → Apart is → Once (note_all pays is fs)
@@ -140,7 +140,7 @@ module _ (pays : Line → ℤ) where
   once_noted (x ∷ is) [] a = tt
   once_noted (x ∷ is) (f ∷ fs) a =
       let later : Once (note_all pays is fs) = once_noted is fs a.1 in
-      let apart : All (λ h. same_party x.party h.party ≡ false) (note_all pays is fs) =
+      let apart : AllByRecursion (λ h. same_party x.party h.party ≡ false) (note_all pays is fs) =
       each_noted (λ h. same_party x.party h.party ≡ false) is fs (λ i k e u. all_nth (λ y. same_party x.party y.party ≡ false) is i k e a.0) in
       elim (eqb f 0) as (λ b. Once (cond b [] (record { party = x.party; price = pays x; contracts = f } ∷ []) ++ note_all pays is fs))
       [ true ↦ later | false ↦ (apart, later) ]
@@ -155,10 +155,10 @@ module _ (pays : Line → ℤ) where
       [ true ↦ order_skip x (is ++ later) (note_all pays is fs ++ more) ih | false ↦ inl (refl, ih) ]
 
 -- one line more, of a party that has none
-pub once_more : (xs ys : List Fill) → Once xs → Once ys → All (λ f. All (λ h. same_party f.party h.party ≡ false) ys) xs → Once (xs ++ ys)
+pub once_more : (xs ys : List Fill) → Once xs → Once ys → AllByRecursion (λ f. AllByRecursion (λ h. same_party f.party h.party ≡ false) ys) xs → Once (xs ++ ys)
 once_more [] ys a b c = b
 once_more (x ∷ xs) ys a b c = (all_join xs ys a.0 c.0, once_more xs ys a.1 b c.1)
   where
-    all_join : (xs ys : List Fill) → All (λ h. same_party x.party h.party ≡ false) xs → All (λ h. same_party x.party h.party ≡ false) ys → All (λ h. same_party x.party h.party ≡ false) (xs ++ ys)
+    all_join : (xs ys : List Fill) → AllByRecursion (λ h. same_party x.party h.party ≡ false) xs → AllByRecursion (λ h. same_party x.party h.party ≡ false) ys → AllByRecursion (λ h. same_party x.party h.party ≡ false) (xs ++ ys)
     all_join [] ys p q = q
     all_join (z ∷ zs) ys p q = (p.0, all_join zs ys p.1 q)

@@ -1,8 +1,9 @@
 -- From an allocation to the blotter.
-use Rattle.std.proofs.Common.{◌≡◌, ℕ, ◌+◌, ◌<◌, ◌≤◌, Bool, true, false, cond, ◌&&◌, eqb, ltb, leb, List, [], ◌∷◌, ◌++◌, length, take, drop, ℤ, ◌≤ℤ◌, Ok, Err, Result, sym, refl, ap, ◌∙◌, subst, arith, length-append}
+use Rattle.std.proofs.Common.{◌≡◌, ℕ, ◌+◌, ◌≤◌, Bool, true, false, cond, ◌&&◌, eqb, ltb, leb, List, [], ◌∷◌, ◌++◌, length, take, drop, ℤ, ◌≤ℤ◌, Ok, Err, Result, sym, refl, ap, ◌∙◌, subst, arith, length-append}
 use mathlib.Core.Path.{fun_ext}
 use lib.Signed.{lt_z}
-use Rattle.std.specs.List.{AllByRecursion as All}
+use Rattle.std.specs.List.{AllByRecursion}
+use Rattle.std.proofs.Math.Seq.{take-append_seam}
 use Rattle.std.proofs.lemmas.List.{drop-drop, take-append-drop}
 use Rattle.std.proofs.lemmas.Int.{ints}
 use Rattle.std.proofs.lemmas.Bool.{cond_both, le-leb}
@@ -18,28 +19,28 @@ use Rattle.market.specs.declared.refusal.Refusal.TheVariants.{OutOfLimits}
 use Rattle.filling.specs.declared.interest.Interest.{Interest}
 use Rattle.filling.specs.Mechanisms as count
 use Rattle.deal.specs.declared.terms.Allocation.TheVariants.{Executed, Cancelled}
-use Rattle.deal.specs.Answers.{most_lines, block_answer, allocation_of, fills_in}
+use Rattle.deal.specs.Answers.{most_lines, allocation_of, fills_in}
 use Rattle.auction.specs.declared.order.Order.{Order}
 use Rattle.auction.specs.declared.line.Line.{Line}
-use Rattle.auction.specs.declared.blotter.Pricing.{Pricing}
-use Rattle.auction.specs.declared.blotter.Pricing.TheVariants.{Own, CustomersAt, AllAt}
+use Rattle.auction.specs.declared.blotter.Pricing.TheVariants.{Own, CustomersAt}
 use Rattle.auction.specs.Gains.{gain, is_customer}
-use Rattle.auction.specs.Lines.{gain_of, interest_of, interest, better_than}
+use Rattle.auction.specs.Lines.{gain_of, interest, better_than}
 use Rattle.auction.specs.Pricing.{paid, pricing_in, Priced}
-use Rattle.auction.specs.Settlement.{price_in, facilitation_price}
-use Rattle.auction.specs.Answers.{written_over}
+use Rattle.auction.specs.Settlement.{Outcome, executed, cancelled, price_in, fills_of, total}
+use Rattle.auction.specs.Promises.{OneSettlement}
+use Rattle.auction.specs.Answers.{answer_of, written_over, Keeps}
 
 -- the gain at a price within the limits is within them
 pub gain_within : (s : Side) (p : ℤ) → lowest_price ≤ℤ p → p ≤ℤ highest_price → (lowest_price ≤ℤ gain s p) × (gain s p ≤ℤ highest_price)
 gain_within Sell p l h = (l, h)
 gain_within Buy p l h = (omega (arith, ints), omega (arith, ints))
 
-pub all_priced : (o : Order) (ls : List Line) → All Priced (interest o ls)
+pub all_priced : (o : Order) (ls : List Line) → AllByRecursion Priced (interest o ls)
 all_priced o [] = tt
 all_priced o (l ∷ ls) = let w = gain_within o.side l.price l.low l.high in (record { low = w.0; high = w.1 }, all_priced o ls)
 
 -- the block's gain is one of the gains
-best_priced : (Z : ℕ) (g : ℤ) (is : List Interest) (b : ℤ) (xs : List Interest) → lowest_price ≤ℤ b → b ≤ℤ highest_price → All Priced xs →
+best_priced : (Z : ℕ) (g : ℤ) (is : List Interest) (b : ℤ) (xs : List Interest) → lowest_price ≤ℤ b → b ≤ℤ highest_price → AllByRecursion Priced xs →
     (lowest_price ≤ℤ count.best_from Z g is b xs) × (count.best_from Z g is b xs ≤ℤ highest_price)
 best_priced Z g is b [] l h a = (l, h)
 best_priced Z g is b (x ∷ xs) l h a =
@@ -48,7 +49,7 @@ best_priced Z g is b (x ∷ xs) l h a =
     (cond_both t x.gain b (λ v. lowest_price ≤ℤ v) (λ _. a.0.low) (λ _. l))
     (cond_both t x.gain b (λ v. v ≤ℤ highest_price) (λ _. a.0.high) (λ _. h)) a.1
 
-pub block_priced : (o : Order) (is : List Interest) → All Priced is →
+pub block_priced : (o : Order) (is : List Interest) → AllByRecursion Priced is →
     (lowest_price ≤ℤ count.block_gain o.size (gain_of o) is) × (count.block_gain o.size (gain_of o) is ≤ℤ highest_price)
 block_priced o is a = let w = gain_within o.side o.price o.low o.high in best_priced o.size (gain_of o) is (gain_of o) is w.0 w.1 a
 
@@ -88,3 +89,11 @@ written_both old mid new xs ys a n ea front rest en both behind =
     let last : drop n new ≡ drop n old =
     behind ∙ ap (λ k. drop k mid) en ∙ sym (drop-drop (length ys) a mid) ∙ ap (drop (length ys)) rest ∙ drop-drop (length ys) a old ∙ ap (λ k. drop k old) (sym en) in
     (long, all, sym (take-append-drop n new) ∙ ap (λ l. l ++ drop n new) all ∙ ap (λ l. (xs ++ ys) ++ l) (last ∙ ap (λ k. drop k old) long))
+
+-- what a settlement promises holds of its answer and of the blotter that it wrote
+pub keeps_written : (o : Order) (ls : List Line) (out : Outcome) (blotter : List Fill) → OneSettlement o ls out →
+    Keeps o ls (Ok (answer_of out)) blotter (written_over (fills_of out) blotter)
+keeps_written o ls (executed fs) blotter k =
+    let e = sym (take-append_seam fs (drop (length fs) blotter)) in
+    (subst (λ xs. OneSettlement o ls (executed xs)) e k, ap total e, ap length e)
+keeps_written o ls (cancelled reason) blotter k = (k, refl)

@@ -1,6 +1,6 @@
 -- Who stands: nobody twice, and the contra apart.
-use Rattle.std.proofs.Common.{◌≡◌, ℕ, zero, suc, ◌+◌, ◌-◌, ◌<◌, ◌≤◌, min, Bool, true, false, cond, not, ◌&&◌, ◌||◌, eqb, leb, ◌⊎◌, List, [], ◌∷◌, ◌++◌, map, length, Some, None, sym, refl, ap, ◌∙◌, subst, inl, inr, ⊎_elim, arith}
-use Rattle.std.specs.List.{AllByRecursion as All, slice_get}
+use Rattle.std.proofs.Common.{◌≡◌, ℕ, zero, suc, ◌+◌, ◌≤◌, min, true, false, cond, not, ◌&&◌, ◌||◌, leb, ◌⊎◌, List, [], ◌∷◌, ◌++◌, map, length, Some, sym, refl, ap, ◌∙◌, inl, inr, ⊎_elim, arith}
+use Rattle.std.specs.List.{AllByRecursion, slice_get}
 use Rattle.std.proofs.ByRecursion.{All-weaker}
 use Rattle.std.proofs.lemmas.Bool.{and_parts, or_parts, not-true, both_ways, ne_eqb, leb-true, cases_lt}
 use Rattle.market.specs.Limits.{most_entries}
@@ -12,7 +12,7 @@ use Rattle.auction.specs.declared.line.Line.{Line}
 use Rattle.auction.specs.Limits.{most_members, most_slots}
 use Rattle.auction.specs.Gains.{is_pooled}
 use Rattle.auction.specs.Lines.{same_party, counted, has_line, may_stand, next_place, in_line_from, stands_in_line}
-use Rattle.auction.proofs.Noting.{Apart, Others, none_some, same_itself, same_back}
+use Rattle.auction.proofs.Noting.{Apart, Others, none_some, same_back}
 
 -- one who may stand behind lines, where entries stand from the place low on
 abbrev Beyond : ℕ → List Line → Party → Type 0
@@ -52,7 +52,7 @@ beyond_more low high before x (Entry place) l h = omega arith
 beyond_more low high before x (Response m s) l h = has_front (Response m s) before (x ∷ []) h
 beyond_more low high before x Contra l h = h
 
-beyond_all : (low : ℕ) (before ls : List Line) → low ≤ most_entries + 1 → in_line_from low before ls ≡ true → All (λ k. Beyond low before k.party) ls
+beyond_all : (low : ℕ) (before ls : List Line) → low ≤ most_entries + 1 → in_line_from low before ls ≡ true → AllByRecursion (λ k. Beyond low before k.party) ls
 beyond_all low before [] l h = tt
 beyond_all low before (x ∷ ls) l h =
     let t = and_parts (may_stand low before x.party) (in_line_from (next_place x.party) (before ++ x ∷ []) ls) h in

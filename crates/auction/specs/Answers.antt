@@ -1,5 +1,5 @@
 -- What settle answers, and what the blotter holds after it.
-use Rattle.std.specs.Prelude.{◌≡◌, ℕ, Bool, cond, ◌&&◌, List, ◌++◌, length, take, drop, Ok, Err, Result, nat_le}
+use Rattle.std.specs.Prelude.{◌≡◌, ℕ, cond, ◌&&◌, List, ◌++◌, length, take, drop, Ok, Err, Result, nat_le}
 use Rattle.market.specs.declared.fill.Fill.{Fill}
 use Rattle.market.specs.declared.refusal.Refusal.{Refusal}
 use Rattle.market.specs.declared.refusal.Refusal.TheVariants.{OutOfLimits, BlotterShort}

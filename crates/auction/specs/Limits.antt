@@ -1,7 +1,7 @@
 -- Limits of an auction.
 use Rattle.std.specs.Prelude.{ℕ, Bool, true, false, cond, ◌&&◌, ℤ, pos, nat_le}
 use Rattle.market.specs.Limits.{lowest_price, highest_price, most_size}
-use Rattle.market.specs.Fields.{in_range, nat_of}
+use Rattle.market.specs.Fields.{in_range}
 use Rattle.market.specs.declared.names.Mechanism.{Mechanism}
 use Rattle.market.specs.declared.names.Mechanism.TheVariants.{Block, Facilitation, Solicited}
 

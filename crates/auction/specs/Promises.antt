@@ -1,8 +1,7 @@
 -- What one settlement promises, of an order o against the lines ls, with what comes of it.
-use Rattle.std.specs.Prelude.{◌≡◌, ℕ, ◌+◌, ◌-◌, ◌*◌, ◌/◌, ◌<◌, ◌≤◌, min, max, Bool, true, false, cond, ◌⊎◌, List, [], ◌∷◌, ◌++◌, ℤ, ◌≤ℤ◌, ◌<ℤ◌, Some, ◌≢◌}
-use Rattle.std.specs.List.{AllByRecursion as All, slice_get}
+use Rattle.std.specs.Prelude.{◌≡◌, ℕ, ◌+◌, ◌-◌, ◌*◌, ◌/◌, ◌<◌, ◌≤◌, min, max, true, false, cond, ◌⊎◌, List, [], ◌∷◌, ◌++◌, ℤ, ◌≤ℤ◌, ◌<ℤ◌, Some, ◌≢◌}
+use Rattle.std.specs.List.{AllByRecursion, slice_get}
 use Rattle.market.specs.declared.names.Mechanism.TheVariants.{Block, Facilitation, Solicited}
-use Rattle.market.specs.declared.fill.Party.{Party}
 use Rattle.market.specs.declared.fill.Party.TheVariants.{Contra}
 use Rattle.market.specs.declared.fill.Fill.{Fill}
 use Rattle.market.specs.declared.fill.Reason.{Reason}
@@ -12,7 +11,7 @@ use Rattle.auction.specs.declared.line.Line.{Line}
 use Rattle.auction.specs.Limits.{is_facilitation}
 use Rattle.auction.specs.Gains.{gain, is_customer, is_pooled}
 use Rattle.auction.specs.Lines.{same_party, gain_of, stated_gain, reserved_of, counted, contra_of, Stands, better_than, from_gain, customers_at, others_at}
-use Rattle.auction.specs.Settlement.{Outcome, executed, cancelled, fills_of, total, received, filled_by, cancelled_by}
+use Rattle.auction.specs.Settlement.{Outcome, cancelled, fills_of, total, received, filled_by, cancelled_by}
 
 -- what happens exactly when something holds
 abbrev pub Exactly : Type 0 → Type 0 → Type 0
@@ -47,12 +46,12 @@ pub record Allowed (o : Order) (ls : List Line) (f : Fill) : Type 0 where
   pub own : gain o.side f.price ≤ℤ stated_gain o whose
 
 pub record NobodyBeyond (o : Order) (ls : List Line) (fs : List Fill) : Type 0 where
-  pub each : All (Allowed o ls) fs
+  pub each : AllByRecursion (Allowed o ls) fs
   -- a line receives at most its standing size
   pub line : (k : Line) → Stands ls k → received k.party fs ≤ k.size
   -- the contra at most the order's, exactly at the order's price
   pub contra : received Contra fs ≤ o.size
-  pub contra_price : All (λ f. f.party ≡ Contra → f.price ≡ o.price) fs
+  pub contra_price : AllByRecursion (λ f. f.party ≡ Contra → f.price ≡ o.price) fs
   -- the order at most its own in all
   pub order : total fs ≤ o.size
 
@@ -138,7 +137,7 @@ pub record CancelledWhen (o : Order) (ls : List Line) (out : Outcome) : Type 0 w
 
 -- all fills are at it, as many contracts execute at it as at the order's price, and fewer at any better one
 pub record BlockPrice (o : Order) (ls : List Line) (fs : List Fill) (price : ℤ) : Type 0 where
-  pub all : All (λ f. f.price ≡ price) fs
+  pub all : AllByRecursion (λ f. f.price ≡ price) fs
   pub as_many : executes o ls (gain o.side price) ≡ executes o ls (gain_of o)
   pub best : (v : ℤ) → gain o.side price <ℤ v → executes o ls v < executes o ls (gain_of o)
 
@@ -160,7 +159,7 @@ pub record Agreed (o : Order) (ls : List Line) (k : Line) (price : ℤ) : Type 0
 
 -- each blotter line is at the price agreed with one who stands
 abbrev pub AgreedPrice : Order → List Line → List Fill → Type 0
-AgreedPrice o ls fs = All (λ f. (k : Line) × Stands (ls ++ contra_of o ∷ []) k × (k.party ≡ f.party) × Agreed o ls k f.price) fs
+AgreedPrice o ls fs = AllByRecursion (λ f. (k : Line) × Stands (ls ++ contra_of o ∷ []) k × (k.party ≡ f.party) × Agreed o ls k f.price) fs
 
 -- A SOLICITED ORDER IS CROSSED EXACTLY WHEN
 
@@ -183,14 +182,14 @@ InOrder (l ∷ ls) (f ∷ fs) = ((l.party ≡ f.party) × InOrder ls fs) ⊎ InO
 -- nobody has two blotter lines
 abbrev pub Once : List Fill → Type 0
 Once [] = Unit {0}
-Once (f ∷ fs) = All (λ h. same_party f.party h.party ≡ false) fs × Once fs
+Once (f ∷ fs) = AllByRecursion (λ h. same_party f.party h.party ≡ false) fs × Once fs
 
 pub record BlotterOrder (o : Order) (ls : List Line) (fs : List Fill) : Type 0 where
   -- entries by place, responses in line order, the contra last
   pub in_order : InOrder (ls ++ contra_of o ∷ []) fs
   pub once : Once fs
   -- no line of zero
-  pub some : All (λ f. 1 ≤ f.contracts) fs
+  pub some : AllByRecursion (λ f. 1 ≤ f.contracts) fs
 
 -- ONE SETTLEMENT: all of it
 

@@ -1,6 +1,6 @@
 // Settling an order.
 ghost use Rattle.std.specs.Prelude.{◌≡◌, ℕ, ◌^◌, ◌<◌, ◌≤◌, true, List, length};
-ghost use Rattle.std.specs.List.{AllByRecursion as All};
+ghost use Rattle.std.specs.List.{AllByRecursion};
 ghost use Rattle.auction.specs.Lines.{interest, lawful};
 ghost use Rattle.auction.specs.Terms.{terms_of};
 ghost use Rattle.auction.specs.Pricing.{pricing_in, paid, Priced};
@@ -40,7 +40,7 @@ fn terms_of(order: &Order) -> Terms
 // fill, and all at one price in a block.
 fn pricing_of(order: &Order, counted: &[Interest]) -> Pricing
     requires few { length counted.now ≤ 128 }
-    requires priced { All Priced counted.now }
+    requires priced { AllByRecursion Priced counted.now }
     ensures { result ≡ pricing_in order.now.mechanism order.now counted.now }
 {
     let gain = gain_at(order.side, order.price);

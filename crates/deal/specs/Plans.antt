@@ -1,7 +1,7 @@
 -- What comes down to a level, and how much of it is for those who are no customers.
 use Rattle.std.specs.Prelude.{ℕ, List, ℤ}
 use Rattle.filling.specs.declared.interest.Interest.{Interest}
-use Rattle.filling.specs.Filling.{dealt, reaching, left_over_fits}
+use Rattle.filling.specs.Filling.{dealt, reaching, left_over}
 use Rattle.filling.specs.Mechanisms.{fac_room, fac_pot}
 use Rattle.deal.specs.declared.plans.Plan.{Plan}
 use Rattle.deal.specs.declared.plans.Plan.TheVariants.{Down, Facilitated}
@@ -13,7 +13,7 @@ room_of (Facilitated Z g r) ls = fac_room Z g ls
 
 -- what the others of a level share out
 abbrev pub pot_of : Plan → List Interest → ℤ → ℕ
-pot_of (Down a) ls = left_over_fits a ls
+pot_of (Down a) ls = left_over a ls
 pot_of (Facilitated Z g r) ls = fac_pot Z g r ls
 
 -- what each line gets

@@ -1,7 +1,7 @@
 // The lines dealt to, level by level.
 ghost use Rattle.std.specs.Prelude.{◌≡◌, ℕ, ◌-◌, ◌≤◌, min, true, ◌&&◌, length, take, if◌then◌else◌, Some, None, slice_index};
 ghost use Rattle.std.specs.List.{slice_get};
-ghost use Rattle.filling.specs.Totals.{level as atLevel, customer_at, other_at, sizes, contracts};
+ghost use Rattle.filling.specs.Totals.{level as at_level, customer_at, other_at, sizes, contracts};
 ghost use Rattle.share.specs.Shares.{shares};
 ghost use Rattle.deal.specs.Plans.{planned};
 ghost use Rattle.deal.specs.Levels.{under, over, best_under, turns_from};
@@ -135,7 +135,7 @@ fn serve_others(pot: u32, lines: &[Interest], level: i32, out: &mut [u32])
 fn deal_level(plan: Plan, lines: &[Interest], level: i32, out: &mut [u32])
     requires few { length lines.now ≤ 128 }
     requires places { length out.old ≡ length lines.now }
-    ensures { (i : ℕ) (l : Interest) → slice_get lines.now i ≡ Some l → slice_index out.new i ≡ (if atLevel level l then slice_index (planned plan lines.now) i else slice_index out.old i) }
+    ensures { (i : ℕ) (l : Interest) → slice_get lines.now i ≡ Some l → slice_index out.new i ≡ (if at_level level l then slice_index (planned plan lines.now) i else slice_index out.old i) }
 {
     serve_customers(room(plan, lines, level), lines, level, out);
     serve_others(pot(plan, lines, level), lines, level, out);

@@ -1,6 +1,6 @@
 // What comes down to a level, and how much of it is for those who are no customers.
 ghost use Rattle.std.specs.Prelude.{◌≡◌, ◌≤◌, length};
-ghost use Rattle.filling.specs.Filling.{reaching, left_over_fits};
+ghost use Rattle.filling.specs.Filling.{reaching, left_over};
 ghost use Rattle.filling.specs.Mechanisms.{rest, shared};
 ghost use Rattle.deal.specs.Plans.{room_of, pot_of};
 
@@ -33,7 +33,7 @@ pub(crate) fn rest_of(size: u32, gain: i32, lines: &[Interest]) -> u32
 // What customers at a level leave of an amount, as far as the others there go.
 fn left_over(amount: u32, lines: &[Interest], level: i32) -> u32
     requires { length lines.now ≤ 128 }
-    ensures { result ≡ left_over_fits amount lines.now level }
+    ensures { result ≡ left_over amount lines.now level }
 {
     total(Group::OthersAt, level, lines).min(rest_of(amount, level, lines))
 }

@@ -1,13 +1,12 @@
 -- The laws of filling down.
-use Rattle.std.proofs.Common.{◌≡◌, ℕ, zero, suc, ◌+◌, ◌-◌, ◌<◌, ◌≤◌, min, Bool, true, false, cond, not, ◌&&◌, ◌⊎◌, List, [], ◌∷◌, ◌++◌, length, get_or, ℤ, ◌≤ℤ◌, ◌<ℤ◌, Some, sym, refl, ap, ◌∙◌, subst, inl, inr, ⊎_elim, arith}
-use lib.Signed.{lt_z, le_z}
+use Rattle.std.proofs.Common.{◌≡◌, ℕ, ◌+◌, ◌<◌, ◌≤◌, Bool, cond, List, [], ◌∷◌, get_or, ℤ, ◌<ℤ◌, Some, ap, ◌∙◌, ⊎_elim, arith}
 use Rattle.std.specs.List.{slice_get}
 use Rattle.std.proofs.lemmas.Int.{ints}
 use Rattle.std.proofs.lemmas.Bool.{cases_Bool}
 use Rattle.filling.specs.declared.interest.Interest.{Interest}
-use Rattle.filling.specs.Totals.{better, level, customer_at, other_at, sizes, contracts, filled}
-use Rattle.filling.specs.Filling.{dealt, reaching, left_over_fits, fill_down}
-use Rattle.filling.specs.Fair.{Within, Worse, Yields, BestFirst, CustomersFirst, InProportion}
+use Rattle.filling.specs.Totals.{better, level, customer_at, other_at, contracts}
+use Rattle.filling.specs.Filling.{reaching, left_over, fill_down}
+use Rattle.filling.specs.Fair.{Within, BestFirst, CustomersFirst}
 use Rattle.filling.specs.Laws.{FilledDown}
 use Rattle.filling.proofs.Counting.{contracts_cons, contracts_split, level_splits}
 use Rattle.filling.proofs.Ladder.{dealt_long, fill_down_above, fill_down_total}
@@ -24,7 +23,7 @@ level_and_above ls v w lt = contracts_under (better w) (better v) (level v) (λ 
 
 module _ (a : ℕ) (ls : List Interest) where
   pub fill_down_within : Within ls (fill_down a ls)
-  fill_down_within i l e = within_here (reaching a ls) (left_over_fits a ls) ls i l e (omega arith)
+  fill_down_within i l e = within_here (reaching a ls) (left_over a ls) ls i l e (omega arith)
 
   -- where a line is left short, its level wants more than comes down to it
   short_level : (i : ℕ) (l : Interest) → slice_get ls i ≡ Some l → get_or (fill_down a ls) i 0 < l.size → reaching a ls l.gain < contracts (level l.gain) ls
@@ -32,40 +31,40 @@ module _ (a : ℕ) (ls : List Interest) where
       let v = l.gain in
       let s = contracts_split (level v) (customer_at v) (other_at v) (level_splits v) ls in
       ⊎_elim
-      (λ c. omega (arith, customer_short (reaching a ls) (left_over_fits a ls) ls i l e v (own_customer l c) h))
-      (λ c. omega (arith, other_short (reaching a ls) (left_over_fits a ls) ls i l e v (own_other l c) h (omega arith)))
+      (λ c. omega (arith, customer_short (reaching a ls) (left_over a ls) ls i l e v (own_customer l c) h))
+      (λ c. omega (arith, other_short (reaching a ls) (left_over a ls) ls i l e v (own_other l c) h (omega arith)))
       (cases_Bool l.customer)
 
   fill_down_full : (i : ℕ) (l : Interest) → slice_get ls i ≡ Some l → contracts (better l.gain) ls + contracts (level l.gain) ls ≤ a → get_or (fill_down a ls) i 0 ≡ l.size
   fill_down_full i l e h =
       let v = l.gain in
       let s = contracts_split (level v) (customer_at v) (other_at v) (level_splits v) ls in
-      full_here (reaching a ls) (left_over_fits a ls) ls i l e (omega arith) (omega arith)
+      full_here (reaching a ls) (left_over a ls) ls i l e (omega arith) (omega arith)
 
   pub fill_down_best : BestFirst ls (fill_down a ls)
   fill_down_best i j k l ek el h w =
       let s = short_level i k ek h in
       let u = level_and_above ls k.gain l.gain w in
-      none_here (reaching a ls) (left_over_fits a ls) ls j l el (omega arith) (omega arith)
+      none_here (reaching a ls) (left_over a ls) ls j l el (omega arith) (omega arith)
 
   pub fill_down_customers : CustomersFirst ls (fill_down a ls)
   fill_down_customers i j k l ek el c h =
       ⊎_elim
       (λ w. fill_down_best i j k l ek el h w)
       (λ y.
-      let s = customer_short (reaching a ls) (left_over_fits a ls) ls i k ek k.gain (own_customer k c) h in
-      let none : left_over_fits a ls k.gain ≡ 0 = omega arith in
-      other_none (reaching a ls) (left_over_fits a ls) ls j l el l.gain (own_other l y.1) (ap (left_over_fits a ls) y.0 ∙ none))
+      let s = customer_short (reaching a ls) (left_over a ls) ls i k ek k.gain (own_customer k c) h in
+      let none : left_over a ls k.gain ≡ 0 = omega arith in
+      other_none (reaching a ls) (left_over a ls) ls j l el l.gain (own_other l y.1) (ap (left_over a ls) y.0 ∙ none))
 
 pub filling : FilledDown
 filling = record {
-  one_each = λ a ls. dealt_long (reaching a ls) (left_over_fits a ls) ls;
+  one_each = λ a ls. dealt_long (reaching a ls) (left_over a ls) ls;
   total = fill_down_total;
   above = fill_down_above;
   within = fill_down_within;
   in_full = fill_down_full;
   best_first = fill_down_best;
   customers_first = fill_down_customers;
-  in_line = λ a ls. dealt_in_line (reaching a ls) (left_over_fits a ls) ls;
-  in_proportion = λ a ls v i l e t. other_proportion (reaching a ls) (left_over_fits a ls) ls i l e v t;
+  in_line = λ a ls. dealt_in_line (reaching a ls) (left_over a ls) ls;
+  in_proportion = λ a ls v i l e t. other_proportion (reaching a ls) (left_over a ls) ls i l e v t;
 }

@@ -1,20 +1,20 @@
 -- Facilitation.
-use Rattle.std.proofs.Common.{◌≡◌, ℕ, zero, suc, ◌+◌, ◌-◌, ◌<◌, ◌≤◌, min, max, Bool, true, false, cond, not, ◌&&◌, ltb, leb, ◌⊎◌, List, [], ◌∷◌, ◌++◌, length, get_or, ℤ, pos, negsuc, ◌≤ℤ◌, ◌<ℤ◌, Some, sum, sym, refl, ap, ◌∙◌, subst, inl, inr, ⊎_elim, arith}
+use Rattle.std.proofs.Common.{◌≡◌, ℕ, suc, ◌+◌, ◌-◌, ◌<◌, ◌≤◌, Bool, true, false, cond, List, [], ◌∷◌, get_or, ℤ, ◌≤ℤ◌, ◌<ℤ◌, Some, sum, refl, ap, ◌∙◌, subst, ⊎_elim, arith}
 use mathlib.Core.Path.{fun_ext}
 use lib.Signed.{lt_z, le_z}
-use Rattle.std.specs.List.{AllByRecursion as All, slice_get}
+use Rattle.std.specs.List.{AllByRecursion, slice_get}
 use Rattle.std.proofs.lemmas.Int.{ints, by_lt_z}
 use Rattle.std.proofs.lemmas.Bool.{cases_Bool, cond-true, cond-false}
 use Rattle.filling.specs.declared.interest.Interest.{Interest}
-use Rattle.filling.specs.Totals.{better, level, customer_at, other_at, sizes, contracts, filled}
-use Rattle.filling.specs.Filling.{dealt, reaching, left_over_fits, fill_down}
-use Rattle.filling.specs.Fair.{Within, Worse, Yields, BestFirst, CustomersFirst, InProportion}
-use Rattle.filling.specs.Mechanisms.{Outcome, executed, rest, shared, fac_room, fac_pot, fac_fills, facilitated}
+use Rattle.filling.specs.Totals.{better, level, customer_at, other_at, contracts, filled}
+use Rattle.filling.specs.Filling.{dealt, reaching, left_over, fill_down}
+use Rattle.filling.specs.Fair.{CustomersFirst}
+use Rattle.filling.specs.Mechanisms.{executed, rest, shared, fac_room, fac_pot, fac_fills, facilitated}
 use Rattle.filling.specs.Rules.{Fair, Facilitation}
-use Rattle.filling.proofs.Counting.{Splits, contracts_cons, contracts_split, filled_split, level_splits}
-use Rattle.filling.proofs.Ladder.{Down, down_to, dealt_long, fill_down_above, fill_down_total, all_filled}
+use Rattle.filling.proofs.Counting.{Splits, contracts_split, filled_split, level_splits}
+use Rattle.filling.proofs.Ladder.{Down, down_to, dealt_long, all_filled}
 use Rattle.filling.proofs.Levels.{level_gets}
-use Rattle.filling.proofs.Places.{own_customer, own_other, customer_short, other_short, other_none, other_proportion, none_here, within_here, full_here, dealt_in_line}
+use Rattle.filling.proofs.Places.{own_customer, own_other, customer_short, other_none, other_proportion, none_here, within_here, full_here, dealt_in_line}
 use Rattle.filling.proofs.Down.{level_and_above}
 
 abbrev worse : ℤ → Interest → Bool
@@ -40,7 +40,7 @@ zero_filled p (l ∷ ls) (f ∷ fs) h =
     (λ t. omega (arith, ih, cond-false (p l) f 0 t))
     (cases_Bool (p l))
 
-all_true : (ls : List Interest) → All (λ _. true ≡ true) ls
+all_true : (ls : List Interest) → AllByRecursion (λ _. true ≡ true) ls
 all_true [] = tt
 all_true (l ∷ ls) = (refl, all_true ls)
 
@@ -51,25 +51,25 @@ module _ (Z : ℕ) (g : ℤ) (r : ℕ) (ls : List Interest) where
   abbrev pot : ℤ → ℕ
   pot = fac_pot Z g r ls
 
-  pub above : (v : ℤ) → g <ℤ v → (room v ≡ reaching Z ls v) × (pot v ≡ left_over_fits Z ls v)
+  pub above : (v : ℤ) → g <ℤ v → (room v ≡ reaching Z ls v) × (pot v ≡ left_over Z ls v)
   above v h =
       let n : lt_z v g ≡ false = grind (arith, ints) in
       let y : lt_z g v ≡ true = grind (arith, ints) in (
         cond-false (lt_z v g) 0 (reaching Z ls v) n,
-        cond-false (lt_z v g) 0 (cond (lt_z g v) (left_over_fits Z ls v) (shared Z g r ls)) n ∙ cond-true (lt_z g v) (left_over_fits Z ls v) (shared Z g r ls) y,
+        cond-false (lt_z v g) 0 (cond (lt_z g v) (left_over Z ls v) (shared Z g r ls)) n ∙ cond-true (lt_z g v) (left_over Z ls v) (shared Z g r ls) y,
       )
 
   pub at_order : (room g ≡ reaching Z ls g) × (pot g ≡ shared Z g r ls)
   at_order =
       let n : lt_z g g ≡ false = grind (arith, ints) in (
         cond-false (lt_z g g) 0 (reaching Z ls g) n,
-        cond-false (lt_z g g) 0 (cond (lt_z g g) (left_over_fits Z ls g) (shared Z g r ls)) n ∙ cond-false (lt_z g g) (left_over_fits Z ls g) (shared Z g r ls) n,
+        cond-false (lt_z g g) 0 (cond (lt_z g g) (left_over Z ls g) (shared Z g r ls)) n ∙ cond-false (lt_z g g) (left_over Z ls g) (shared Z g r ls) n,
       )
 
   below : (v : ℤ) → v <ℤ g → (room v ≡ 0) × (pot v ≡ 0)
   below v h =
       let y : lt_z v g ≡ true = grind (arith, ints) in
-      (cond-true (lt_z v g) 0 (reaching Z ls v) y, cond-true (lt_z v g) 0 (cond (lt_z g v) (left_over_fits Z ls v) (shared Z g r ls)) y)
+      (cond-true (lt_z v g) 0 (reaching Z ls v) y, cond-true (lt_z v g) 0 (cond (lt_z g v) (left_over Z ls v) (shared Z g r ls)) y)
 
   -- a level is above, at or below the order's
   three : (P : ℤ → Type 0) (v : ℤ) → (g <ℤ v → P v) → P g → (v <ℤ g → P v) → P v
@@ -156,8 +156,8 @@ module _ (Z : ℕ) (g : ℤ) (r : ℕ) (ls : List Interest) where
       let low : (v : ℤ) → v <ℤ g → Z ≤ contracts (better v) ls = λ v lt. omega (arith, level_and_above ls g v lt) in
       let same-room : (v : ℤ) → room v ≡ reaching Z ls v =
       λ v. three (λ w. room w ≡ reaching Z ls w) v (λ hi. (above v hi).0) at_order.0 (λ lt. omega (arith, (below v lt).0, low v lt)) in
-      let same-pot : (v : ℤ) → pot v ≡ left_over_fits Z ls v =
-      λ v. three (λ w. pot w ≡ left_over_fits Z ls w) v (λ hi. (above v hi).1) (omega (arith, at_order.1)) (λ lt. omega (arith, (below v lt).1, low v lt)) in
+      let same-pot : (v : ℤ) → pot v ≡ left_over Z ls v =
+      λ v. three (λ w. pot w ≡ left_over Z ls w) v (λ hi. (above v hi).1) (omega (arith, at_order.1)) (λ lt. omega (arith, (below v lt).1, low v lt)) in
       let left : rest Z g ls - shared Z g r ls ≡ 0 = omega arith in
       ap (λ c. executed (fac_fills Z g r ls) c) left ∙
       ap (λ f. executed (dealt f pot ls) 0) (fun_ext same-room) ∙

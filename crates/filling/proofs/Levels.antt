@@ -1,11 +1,11 @@
 -- What a level gets.
-use Rattle.std.proofs.Common.{◌≡◌, ℕ, zero, suc, ◌+◌, ◌-◌, ◌<◌, ◌≤◌, min, Bool, true, false, cond, not, ◌&&◌, ◌⊎◌, List, [], ◌∷◌, ◌++◌, length, get_or, drop, ℤ, sum, sym, refl, ap, ◌∙◌, subst, inl, inr, ⊎_elim, append_assoc, append-nil, add-zero, arith}
+use Rattle.std.proofs.Common.{◌≡◌, ℕ, ◌+◌, ◌-◌, ◌≤◌, min, true, cond, not, List, [], ◌∷◌, ◌++◌, length, get_or, drop, ℤ, sum, sym, refl, ap, ◌∙◌, ⊎_elim, append_assoc, append-nil, add-zero, arith}
 use Rattle.std.proofs.lemmas.List.{drop_all}
 use Rattle.std.proofs.lemmas.Bool.{and_parts, cases_Bool, not-true, cond-true, cond-false}
 use Rattle.share.specs.Shares.{shares}
 use Rattle.filling.proofs.Sharing.{one_each, all_given}
 use Rattle.filling.specs.declared.interest.Interest.{Interest}
-use Rattle.filling.specs.Totals.{better, level, customer_at, other_at, sizes, contracts, filled}
+use Rattle.filling.specs.Totals.{level, customer_at, other_at, sizes, contracts, filled}
 use Rattle.filling.specs.Filling.{fill, fills_from, dealt}
 use Rattle.filling.proofs.Counting.{sum_drop, contracts_cons, contracts_push, count_push, filled_split, level_splits, level_is}
 

@@ -1,20 +1,20 @@
 -- Solicited orders and blocks.
-use Rattle.std.proofs.Common.{◌≡◌, ℕ, zero, suc, ◌+◌, ◌-◌, ◌<◌, ◌≤◌, min, max, Bool, true, false, cond, not, ◌&&◌, ◌||◌, eqb, ltb, leb, ◌⊎◌, List, [], ◌∷◌, ◌++◌, map, length, get_or, take, ℤ, pos, negsuc, ◌≤ℤ◌, ◌<ℤ◌, Some, sum, sym, refl, ap, ◌∙◌, subst, inl, inr, ⊎_elim, arith}
+use Rattle.std.proofs.Common.{◌≡◌, ℕ, zero, suc, ◌<◌, ◌≤◌, Bool, true, false, cond, ◌&&◌, eqb, leb, ◌⊎◌, List, [], ◌∷◌, get_or, ℤ, ◌≤ℤ◌, ◌<ℤ◌, Some, sum, sym, refl, ap, ◌∙◌, inl, inr, ⊎_elim, arith}
 use lib.Signed.{lt_z, le_z}
-use Rattle.std.specs.List.{AllByRecursion as All, slice_get}
+use Rattle.std.specs.List.{AllByRecursion, slice_get}
 use Rattle.std.proofs.lemmas.List.{length-map}
 use Rattle.std.proofs.ByRecursion.{All-weaker}
 use Rattle.std.proofs.lemmas.Int.{ints, by_lt_z}
-use Rattle.std.proofs.lemmas.Bool.{cases_Bool, cond-true, cond-false, cond_both, leb-true, eqb-true, eqb-false, eq-eqb, and_parts, and_from, and_cases, or_parts, both_ways, cases_eq, cases_lt}
+use Rattle.std.proofs.lemmas.Bool.{cond_both, leb-true, eqb-true, eq-eqb, and_parts, and_from, and_cases, or_parts, both_ways, cases_lt}
 use Rattle.filling.specs.declared.interest.Interest.{Interest}
-use Rattle.filling.specs.Totals.{better, level, customer_at, other_at, sizes, contracts, filled}
-use Rattle.filling.specs.Filling.{dealt, reaching, left_over_fits, fill_down}
-use Rattle.filling.specs.Mechanisms.{Outcome, executed, cancelled, at_least, customer_from, pooled_over, some, nothing, solicited, executing, best_from, block_gain, blocked}
+use Rattle.filling.specs.Totals.{better, contracts}
+use Rattle.filling.specs.Filling.{reaching, left_over, fill_down}
+use Rattle.filling.specs.Mechanisms.{Outcome, executed, at_least, customer_from, pooled_over, some, nothing, solicited, executing, best_from, block_gain, blocked}
 use Rattle.filling.specs.Rules.{Fair, Settles, AllOrNone, Solicitation, Block}
-use Rattle.filling.proofs.Counting.{Splits, sum_cons, contracts_cons, contracts_split, filled_split, level_splits}
-use Rattle.filling.proofs.Ladder.{dealt_long, none_pass, fill_down_above, fill_down_total}
+use Rattle.filling.proofs.Counting.{contracts_cons}
+use Rattle.filling.proofs.Ladder.{dealt_long, none_pass, fill_down_total}
 use Rattle.filling.proofs.Places.{none_here, dealt_in_line}
-use Rattle.filling.proofs.Down.{contracts_under, level_and_above, fill_down_within, fill_down_best, fill_down_customers}
+use Rattle.filling.proofs.Down.{fill_down_within, fill_down_customers}
 
 -- a test that another follows from
 pub contracts_mono : (p q : Interest → Bool) → ((l : Interest) (x : ℕ) → cond (q l) x 0 ≤ cond (p l) x 0) → (ls : List Interest) → contracts q ls ≤ contracts p ls
@@ -37,19 +37,19 @@ at_least_down v w ls h = contracts_mono (at_least v) (at_least w) (λ l x. grind
 pub none_under : (a : ℕ) (v : ℤ) (ls : List Interest) → a ≤ contracts (at_least v) ls → (i : ℕ) (l : Interest) → slice_get ls i ≡ Some l → l.gain <ℤ v → get_or (fill_down a ls) i 0 ≡ 0
 none_under a v ls h i l e lt =
     let u = at_least_above l.gain v ls lt in
-    none_here (reaching a ls) (left_over_fits a ls) ls i l e (omega arith) (omega arith)
+    none_here (reaching a ls) (left_over a ls) ls i l e (omega arith) (omega arith)
 
 pub down_total : (a : ℕ) (g : ℤ) (ls : List Interest) → a ≤ contracts (at_least g) ls → sum (fill_down a ls) ≡ a
 down_total a g ls h = omega (arith, fill_down_total a ls, at_least_all g ls)
 
 pub down_fair : (a Z : ℕ) (g : ℤ) (ls : List Interest) → a ≤ Z → a ≤ contracts (at_least g) ls → Fair Z g ls (fill_down a ls) 0
 down_fair a Z g ls h k = record {
-  one_each = dealt_long (reaching a ls) (left_over_fits a ls) ls;
+  one_each = dealt_long (reaching a ls) (left_over a ls) ls;
   conserved = omega (arith, down_total a g ls k);
   within = fill_down_within a ls;
   none_below = none_under a g ls k;
   customers_first = fill_down_customers a ls;
-  in_line = dealt_in_line (reaching a ls) (left_over_fits a ls) ls;
+  in_line = dealt_in_line (reaching a ls) (left_over a ls) ls;
   contra_last = λ i l e c s b. refl;
 }
 
@@ -147,7 +147,7 @@ module _ (Z : ℕ) (g : ℤ) (ls : List Interest) where
       omega (arith, ints)
   covers b (x ∷ xs) (suc i) l e h = covers (cond (lt_z b x.gain && eqb (executing Z ls x.gain) (executing Z ls g)) x.gain b) xs i l e h
 
-contracts_same : (p q : Interest → Bool) (ls : List Interest) → All (λ l. p l ≡ q l) ls → contracts p ls ≡ contracts q ls
+contracts_same : (p q : Interest → Bool) (ls : List Interest) → AllByRecursion (λ l. p l ≡ q l) ls → contracts p ls ≡ contracts q ls
 contracts_same p q [] h = refl
 contracts_same p q (l ∷ ls) h = omega (arith, contracts_cons p l ls, contracts_cons q l ls, ap (λ b. cond b l.size 0) h.0, contracts_same p q ls h.1)
 
@@ -156,9 +156,9 @@ tests_same v g m h f = by_lt_z m v (λ lt. grind (arith, ints)) (λ le. let k = 
 
 -- the lowest of the lines from v on
 abbrev Lowest : ℤ → List Interest → Type 0
-Lowest v ls = (i : ℕ) × (l : Interest) × (slice_get ls i ≡ Some l) × (v ≤ℤ l.gain) × All (λ m. v ≤ℤ m.gain → l.gain ≤ℤ m.gain) ls
+Lowest v ls = (i : ℕ) × (l : Interest) × (slice_get ls i ≡ Some l) × (v ≤ℤ l.gain) × AllByRecursion (λ m. v ≤ℤ m.gain → l.gain ≤ℤ m.gain) ls
 
-lowest : (v : ℤ) (ls : List Interest) → All (λ l. l.gain <ℤ v) ls ⊎ Lowest v ls
+lowest : (v : ℤ) (ls : List Interest) → AllByRecursion (λ l. l.gain <ℤ v) ls ⊎ Lowest v ls
 lowest v [] = inl tt
 lowest v (x ∷ ls) =
     by_lt_z x.gain v

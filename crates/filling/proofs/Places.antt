@@ -1,17 +1,16 @@
 -- What the line at a place gets.
-use Rattle.std.proofs.Common.{◌≡◌, ℕ, zero, suc, ◌+◌, ◌-◌, ◌*◌, ◌/◌, ◌<◌, ◌≤◌, min, Bool, true, false, cond, not, ◌&&◌, ◌⊎◌, List, [], ◌∷◌, ◌++◌, length, get_or, take, drop, ℤ, ◌≤ℤ◌, ◌<ℤ◌, Some, None, sum, sym, refl, ap, ◌∙◌, subst, inl, inr, ⊎_elim, append_assoc, append-nil, add-one, arith, length-append}
-use lib.Signed.{lt_z, le_z}
+use Rattle.std.proofs.Common.{◌≡◌, ℕ, zero, suc, ◌+◌, ◌-◌, ◌*◌, ◌/◌, ◌<◌, ◌≤◌, min, Bool, true, false, not, ◌⊎◌, List, [], ◌∷◌, ◌++◌, length, get_or, take, drop, ℤ, Some, sym, refl, ap, ◌∙◌, inl, inr, ⊎_elim, append_assoc, append-nil, arith, length-append}
 use Rattle.std.specs.List.{slice_get}
 use Rattle.std.proofs.lemmas.List.{get_or_at}
 use Rattle.std.proofs.lemmas.Int.{ints}
 use Rattle.std.proofs.lemmas.Bool.{and_from, cases_Bool, cond-true, not_from_false, cases_lt}
 use Rattle.share.specs.Shares.{shares}
-use Rattle.filling.proofs.Sharing.{one_each, all_given, none_over, in_full, none_given, in_proportion}
+use Rattle.filling.proofs.Sharing.{none_over, in_full, none_given, in_proportion}
 use Rattle.filling.specs.declared.interest.Interest.{Interest}
-use Rattle.filling.specs.Totals.{better, level, customer_at, other_at, sizes, contracts, filled}
+use Rattle.filling.specs.Totals.{level, customer_at, other_at, sizes, contracts}
 use Rattle.filling.specs.Filling.{fill, fills_from, dealt}
 use Rattle.filling.specs.Fair.{InLine}
-use Rattle.filling.proofs.Counting.{sum_drop, contracts_cons, contracts_append, contracts_push, sizes_append, count_push, filled_split, level_splits, level_is}
+use Rattle.filling.proofs.Counting.{contracts_cons, contracts_append, sizes_append}
 use Rattle.filling.proofs.Levels.{fill_customer, fill_other}
 
 -- a list around a place

@@ -1,5 +1,5 @@
 -- Who gets how much of an amount.
-use Rattle.std.specs.Prelude.{ℕ, ◌+◌, ◌-◌, min, Bool, cond, List, [], ◌∷◌, ◌++◌, length, ℤ, slice_index}
+use Rattle.std.specs.Prelude.{ℕ, ◌-◌, min, cond, List, [], ◌∷◌, ◌++◌, length, ℤ, slice_index}
 use Rattle.share.specs.Shares.{shares}
 use Rattle.filling.specs.declared.interest.Interest.{Interest}
 use Rattle.filling.specs.Totals.{better, customer_at, other_at, sizes, contracts}
@@ -28,8 +28,8 @@ abbrev pub reaching : ℕ → List Interest → ℤ → ℕ
 reaching a ls v = a - contracts (better v) ls
 
 -- what its customers leave for the others, as far as they go
-abbrev pub left_over_fits : ℕ → List Interest → ℤ → ℕ
-left_over_fits a ls v = min (contracts (other_at v) ls) (reaching a ls v - contracts (customer_at v) ls)
+abbrev pub left_over : ℕ → List Interest → ℤ → ℕ
+left_over a ls v = min (contracts (other_at v) ls) (reaching a ls v - contracts (customer_at v) ls)
 
 abbrev pub fill_down : ℕ → List Interest → List ℕ
-fill_down a ls = dealt (reaching a ls) (left_over_fits a ls) ls
+fill_down a ls = dealt (reaching a ls) (left_over a ls) ls

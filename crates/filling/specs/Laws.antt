@@ -1,9 +1,9 @@
 -- What filling down keeps to.
-use Rattle.std.specs.Prelude.{◌≡◌, ℕ, ◌+◌, ◌*◌, ◌/◌, ◌<◌, ◌≤◌, min, Bool, true, false, List, length, ℤ, Some, sum, slice_index}
+use Rattle.std.specs.Prelude.{◌≡◌, ℕ, ◌+◌, ◌≤◌, min, true, List, length, ℤ, Some, sum, slice_index}
 use Rattle.std.specs.List.{slice_get}
 use Rattle.filling.specs.declared.interest.Interest.{Interest}
 use Rattle.filling.specs.Totals.{better, level, contracts, filled}
-use Rattle.filling.specs.Filling.{fill_down, left_over_fits}
+use Rattle.filling.specs.Filling.{fill_down, left_over}
 use Rattle.filling.specs.Fair.{Within, BestFirst, CustomersFirst, InLine, InProportion}
 
 pub record FilledDown : Type 0 where
@@ -19,4 +19,4 @@ pub record FilledDown : Type 0 where
   pub best_first : (a : ℕ) (ls : List Interest) → BestFirst ls (fill_down a ls)
   pub customers_first : (a : ℕ) (ls : List Interest) → CustomersFirst ls (fill_down a ls)
   pub in_line : (a : ℕ) (ls : List Interest) → InLine ls (fill_down a ls)
-  pub in_proportion : (a : ℕ) (ls : List Interest) (v : ℤ) → InProportion ls (fill_down a ls) v (left_over_fits a ls v)
+  pub in_proportion : (a : ℕ) (ls : List Interest) (v : ℤ) → InProportion ls (fill_down a ls) v (left_over a ls v)

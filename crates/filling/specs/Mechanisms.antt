@@ -1,12 +1,12 @@
 -- How each mechanism settles an order of Z contracts at the gain g against the lines ls.
-use Rattle.std.specs.Prelude.{ℕ, ◌+◌, ◌-◌, ◌*◌, ◌/◌, min, Bool, true, false, cond, ◌&&◌, ◌||◌, List, [], ◌∷◌, map, ℤ, ◌==◌, int_le, int_lt, nat_le}
+use Rattle.std.specs.Prelude.{ℕ, ◌+◌, ◌-◌, ◌*◌, ◌/◌, min, Bool, false, cond, ◌&&◌, ◌||◌, List, [], ◌∷◌, map, ℤ, ◌==◌, int_le, int_lt, nat_le}
 use Rattle.market.specs.declared.names.Mechanism.{Mechanism}
 use Rattle.market.specs.declared.names.Mechanism.TheVariants.{Block, Facilitation, Solicited}
 use Rattle.market.specs.declared.fill.Reason.{Reason}
 use Rattle.market.specs.declared.fill.Reason.TheVariants.{CustomerStands, BetterStands, NoInterest}
 use Rattle.filling.specs.declared.interest.Interest.{Interest}
 use Rattle.filling.specs.Totals.{better, customer_at, other_at, contracts}
-use Rattle.filling.specs.Filling.{dealt, reaching, left_over_fits, fill_down}
+use Rattle.filling.specs.Filling.{dealt, reaching, left_over, fill_down}
 
 -- an execution, with the fills of the lines and the contra's, or a cancellation
 pub data Outcome : Type 0 where
@@ -42,7 +42,7 @@ abbrev pub fac_room : ℕ → ℤ → List Interest → ℤ → ℕ
 fac_room Z g ls v = cond (int_lt v g) 0 (reaching Z ls v)
 
 abbrev pub fac_pot : ℕ → ℤ → ℕ → List Interest → ℤ → ℕ
-fac_pot Z g r ls v = cond (int_lt v g) 0 (cond (int_lt g v) (left_over_fits Z ls v) (shared Z g r ls))
+fac_pot Z g r ls v = cond (int_lt v g) 0 (cond (int_lt g v) (left_over Z ls v) (shared Z g r ls))
 
 abbrev pub fac_fills : ℕ → ℤ → ℕ → List Interest → List ℕ
 fac_fills Z g r ls = dealt (fac_room Z g ls) (fac_pot Z g r ls) ls

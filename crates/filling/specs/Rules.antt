@@ -1,9 +1,9 @@
 -- What every settlement keeps to.
-use Rattle.std.specs.Prelude.{◌≡◌, ℕ, ◌+◌, ◌-◌, ◌<◌, ◌≤◌, min, max, Bool, true, false, List, length, ℤ, ◌≤ℤ◌, ◌<ℤ◌, Some, sum, slice_index}
+use Rattle.std.specs.Prelude.{◌≡◌, ℕ, ◌+◌, ◌-◌, ◌<◌, ◌≤◌, min, max, true, List, length, ℤ, ◌≤ℤ◌, ◌<ℤ◌, Some, sum, slice_index}
 use Rattle.std.specs.List.{slice_get}
 use Rattle.filling.specs.declared.interest.Interest.{Interest}
 use Rattle.filling.specs.Totals.{better, other_at, contracts}
-use Rattle.filling.specs.Filling.{left_over_fits, fill_down}
+use Rattle.filling.specs.Filling.{fill_down}
 use Rattle.filling.specs.Fair.{Within, CustomersFirst, InLine, InProportion}
 use Rattle.filling.specs.Mechanisms.{Outcome, executed, cancelled, rest, shared, fac_pot, fac_fills, facilitated, solicited, executing, block_gain, blocked}
 

@@ -1,8 +1,7 @@
-use Rattle.std.proofs.Common.{◌≡◌, ◌+◌, ◌<◌, List, [], ◌∷◌, ◌++◌, length, take, drop, set, ℤ, sym, refl, ap, ◌∙◌, arith, w32, to_z, of_z}
+use Rattle.std.proofs.Common.{◌+◌, [], ◌∷◌, ◌++◌, length, take, ℤ, sym, ap, ◌∙◌, arith, w32, to_z, of_z}
 use Rattle.std.proofs.lemmas.Int.{to_z-of_z}
 use Rattle.std.proofs.lemmas.List.{take_more_set, drop-set-lt}
 use Rattle.market.specs.declared.fill.Fill.{Fill}
-use Rattle.auction.specs.Settlement.{noted}
 use Rattle.auction.proofs.Written.{noted_some}
 use Rattle.auction.proofs.blotter.note.Goals as goal
 

@@ -1,4 +1,4 @@
-use Rattle.std.proofs.Common.{◌≡◌, refl, ap, ◌∙◌, arith, w32, SFits, to_z, of_z}
+use Rattle.std.proofs.Common.{ap, ◌∙◌, arith, w32, SFits, to_z, of_z}
 use Rattle.std.proofs.lemmas.Int.{to_z-of_z}
 use Rattle.auction.specs.declared.line.Line.{Line}
 use Rattle.auction.specs.Pricing.{paid}
@@ -12,12 +12,12 @@ pub loop-i-preserved : goal.loop-i-preserved
 loop-i-preserved c =
     let pays = paid c.args.pricing in
     let x = c.index-lines-i.result in
-    let r = c.price-of-price.result in
-    let f : SFits w32 r = record { sfits = c.price-of-price.type-inv } in
+    let r = c.price_of-price.result in
+    let f : SFits w32 r = record { sfits = c.price_of-price.type_inv } in
     let t = c.loop-i-test.true in
     written_more pays c.args.lines.now c.args.fills.now c.loop-i.i c.loop-i.at c.note-at.result c.loop-i.blotter c.note-at.new.blotter c.args.blotter.now x
     x.party (to_z w32 (of_z w32 r)) t (omega arith)
-    (ap (λ (y : Line). y.party) c.index-lines-i.is) (to_z-of_z w32 r f ∙ c.price-of-price.ensures ∙ ap pays c.index-lines-i.is)
+    (ap (λ (y : Line). y.party) c.index-lines-i.is) (to_z-of_z w32 r f ∙ c.price_of-price.ensures ∙ ap pays c.index-lines-i.is)
     c.note-at.ensures.many c.note-at.ensures.front c.note-at.ensures.rest c.loop-i.invariant
 
 pub returns : goal.returns

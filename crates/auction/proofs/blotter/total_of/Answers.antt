@@ -8,8 +8,8 @@ use Rattle.auction.proofs.blotter.total_of.Goals as goal
 abbrev none : Fill
 none = record { party = Entry 0; price = pos 0; contracts = 0 }
 
-pub overflow-add-sum : goal.overflow-add-sum
-overflow-add-sum c =
+pub overflow_add-sum : goal.overflow_add-sum
+overflow_add-sum c =
     let ls = c.args.lines.now in
     let i = c.loop-line.line-index in
     let inv = c.loop-line.invariant in

@@ -1,7 +1,7 @@
-use Rattle.std.proofs.Common.{◌≡◌, ◌+◌, true, false, [], ◌∷◌, ◌++◌, get_or, take, drop, sym, refl, ap, ◌∙◌, subst, arith}
+use Rattle.std.proofs.Common.{◌≡◌, ◌+◌, true, [], ◌∷◌, ◌++◌, get_or, take, drop, sym, refl, ap, ◌∙◌, subst, arith}
 use Rattle.std.proofs.lemmas.List.{take_more}
 use Rattle.auction.specs.declared.line.Line.{Line}
-use Rattle.auction.specs.Lines.{may_stand, next_place, in_line_from, stands_in_line}
+use Rattle.auction.specs.Lines.{may_stand, next_place, in_line_from}
 use Rattle.auction.specs.Seats.{seats_after}
 use Rattle.auction.proofs.Seated.{Noted, none_noted, admits, declines, notes, line_on, line_off, line_end}
 use Rattle.auction.proofs.seats.in_line.Goals as goal

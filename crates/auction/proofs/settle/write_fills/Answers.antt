@@ -1,4 +1,4 @@
-use Rattle.std.proofs.Common.{◌≡◌, ◌+◌, ◌-◌, ◌++◌, length, take, ℤ, sym, refl, ap, ◌∙◌, arith, w32, SFits, to_z, of_z, rules}
+use Rattle.std.proofs.Common.{◌≡◌, ◌+◌, ◌-◌, ◌++◌, length, take, ℤ, ap, ◌∙◌, arith, w32, SFits, rules}
 use Rattle.std.proofs.lemmas.Int.{to_z-of_z}
 use Rattle.market.specs.declared.fill.Party.TheVariants.{Contra}
 use Rattle.auction.specs.declared.settled.Settled.TheVariants.{Executed}
@@ -15,13 +15,13 @@ returns c =
     let xs = note_all (paid c.args.pricing) c.args.lines.now c.args.fills.now in
     let n = c.note-n.result in
     let w =
-    written_both c.args.blotter.now c.note-lines-at.new.blotter c.note-n.new.blotter xs (noted Contra o.price c.args.contra) c.note-lines-at.result n
-    c.note-lines-at.ensures.many c.note-lines-at.ensures.front c.note-lines-at.ensures.rest
-    (c.note-n.ensures.many ∙ ap (λ (p : ℤ). c.note-lines-at.result + length (noted Contra p c.args.contra)) e)
-    (c.note-n.ensures.front ∙ ap (λ (p : ℤ). take c.note-lines-at.result c.note-lines-at.new.blotter ++ noted Contra p c.args.contra) e)
+    written_both c.args.blotter.now c.note_lines-at.new.blotter c.note-n.new.blotter xs (noted Contra o.price c.args.contra) c.note_lines-at.result n
+    c.note_lines-at.ensures.many c.note_lines-at.ensures.front c.note_lines-at.ensures.rest
+    (c.note-n.ensures.many ∙ ap (λ (p : ℤ). c.note_lines-at.result + length (noted Contra p c.args.contra)) e)
+    (c.note-n.ensures.front ∙ ap (λ (p : ℤ). take c.note_lines-at.result c.note_lines-at.new.blotter ++ noted Contra p c.args.contra) e)
     c.note-n.ensures.rest in
     let m : n - 0 ≡ n = omega arith in
     record {
-      answer = λ i. Executed (w.0 i) ((c.total-of.ensures ∙ ap (λ k. total (take k c.note-n.new.blotter)) m ∙ ap total w.1) i);
+      answer = λ i. Executed (w.0 i) ((c.total_of.ensures ∙ ap (λ k. total (take k c.note-n.new.blotter)) m ∙ ap total w.1) i);
       after = w.2;
     }

@@ -7,7 +7,7 @@ returns c =
     let t = c.args.terms.now in
     let ls = c.args.lines.now in
     let old = c.args.out.now in
-    let fits = sym c.one-each.ensures ∙ c.if-not-one-each.false in
+    let fits = sym c.one_each.ensures ∙ c.if-not-one_each.false in
     record {
       answer = answered t ls old fits c.cross.result c.cross.ensures.answer;
       after = left t ls old fits _ c.cross.ensures.after;

@@ -11,7 +11,7 @@ returns c =
     let Z = c.args.size in
     let g = c.args.gain in
     let ls = c.args.lines.now in
-    let f : SFits w32 c.climb.result = record { sfits = c.climb.type-inv } in
+    let f : SFits w32 c.climb.result = record { sfits = c.climb.type_inv } in
     let r = to_z-of_z w32 c.climb.result f ∙ c.climb.ensures ∙ ap (λ h. block_gain Z h ls) (to_z-of_z w32 g c.ranges.gain) in
     record {
       answer = ap Ok r ∙ sym (cond-true (leb (length ls) 128) (Ok (block_gain Z g ls)) (Err OutOfLimits) (le-leb (length ls) 128 (omega arith)));

@@ -4,7 +4,7 @@ use Rattle.std.proofs.lemmas.List.{at_drop_all}
 use Rattle.filling.specs.Mechanisms.{best_from, block_gain}
 use Rattle.deal.proofs.Climbing.{Climbs, climb_up, climb_cap, climb_on}
 use Rattle.deal.proofs.block.climb.Goals as goal
-use Rattle.deal.proofs.block.climb.Goals.{then-between+then-executing-at-as-many, then-between+else-executing-at-as-many, else-between}
+use Rattle.deal.proofs.block.climb.Goals.{then-between+then-executing_at-as_many, then-between+else-executing_at-as_many, else-between}
 
 pub loop-line-preserved : goal.loop-line-preserved
 loop-line-preserved c =
@@ -18,14 +18,14 @@ loop-line-preserved c =
     let e = to_z-of_z w32 x.gain f in
     let t = c.between.ensures in
     elim c.if-between.branch [
-      | then-between+then-executing-at-as-many w ↦
+      | then-between+then-executing_at-as_many w ↦
           subst₂ (λ b o. Climbs Z g ls b o (drop (i + 1) ls)) (sym w.best-is) (sym w.ceiling-is)
           (climb_up Z g ls i x c.loop-line-test.true c.line-item.is v _ e c.loop-line.ceiling c.loop-line.invariant (sym t ∙ w.if-between.true)
-          (sym w.executing-at.ensures ∙ w.if-executing-at-as-many.true ∙ c.executing-at-as-many.ensures))
-      | then-between+else-executing-at-as-many w ↦
+          (sym w.executing_at.ensures ∙ w.if-executing_at-as_many.true ∙ c.executing_at-as_many.ensures))
+      | then-between+else-executing_at-as_many w ↦
           subst₂ (λ b o. Climbs Z g ls b o (drop (i + 1) ls)) (sym w.best-is) (sym w.ceiling-is)
           (climb_cap Z g ls i x c.loop-line-test.true c.line-item.is v _ e c.loop-line.ceiling c.loop-line.invariant (sym t ∙ w.if-between.true)
-          (λ q. w.if-executing-at-as-many.false (w.executing-at.ensures ∙ q ∙ sym c.executing-at-as-many.ensures)))
+          (λ q. w.if-executing_at-as_many.false (w.executing_at.ensures ∙ q ∙ sym c.executing_at-as_many.ensures)))
       | else-between w ↦
           subst₂ (λ b o. Climbs Z g ls b o (drop (i + 1) ls)) (sym w.best-is) (sym w.ceiling-is)
           (climb_on Z g ls i x c.loop-line-test.true c.line-item.is v _ e c.loop-line.ceiling c.loop-line.invariant (sym t ∙ w.if-between.false))

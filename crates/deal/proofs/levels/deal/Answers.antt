@@ -10,9 +10,9 @@ loop-level-preserved c =
     let v = c.in-Some.level in
     let f : SFits w32 v = search rules in
     let e = to_z-of_z w32 v f in
-    let out = c.deal-level.new.out in
+    let out = c.deal_level.new.out in
     subst (λ w. Served plan ls out (Some w)) (sym e)
-    (level_more plan ls c.loop-level.out out c.loop-level.bound v c.in-Some.ensures (subst (λ w. LevelServed plan ls w c.loop-level.out out) e c.deal-level.ensures) c.loop-level.invariant)
+    (level_more plan ls c.loop-level.out out c.loop-level.bound v c.in-Some.ensures (subst (λ w. LevelServed plan ls w c.loop-level.out out) e c.deal_level.ensures) c.loop-level.invariant)
 
 pub loop-level-smaller : goal.loop-level-smaller
 loop-level-smaller c =
@@ -22,4 +22,4 @@ loop-level-smaller c =
     subst (λ w. height (Some w) < height bound) (sym (to_z-of_z w32 v f)) (falls bound v f (best_is_under bound c.args.lines.now v c.in-Some.ensures))
 
 pub returns : goal.returns
-returns c = all_served c.args.plan c.args.lines.now c.loop-level.out c.loop-level.bound (omega arith) c.in-default.ensures c.loop-level.invariant
+returns c = all_served c.args.plan c.args.lines.now c.loop-level.out c.loop-level.bound (omega arith) c.in_default.ensures c.loop-level.invariant

@@ -12,9 +12,9 @@ returns c =
     let ls = c.args.lines.now in
     let v = to_z w32 (of_z w32 c.args.level) in
     let old = c.args.out.now in
-    let mid = c.serve-customers.new.out in
-    let out = c.serve-others.new.out in
+    let mid = c.serve_customers.new.out in
+    let out = c.serve_others.new.out in
     subst (λ w. LevelServed plan ls w old out) (to_z-of_z w32 c.args.level c.ranges.level)
     (both_served plan ls v old mid out
-    (subst (λ n. Passed (customer_at v) (left_for v n ls) ls old mid) c.room.ensures c.serve-customers.ensures)
-    (subst (λ n. Passed (other_at v) (part_for v (shares n (sizes (other_at v) ls)) ls) ls mid out) c.pot.ensures c.serve-others.ensures))
+    (subst (λ n. Passed (customer_at v) (left_for v n ls) ls old mid) c.room.ensures c.serve_customers.ensures)
+    (subst (λ n. Passed (other_at v) (part_for v (shares n (sizes (other_at v) ls)) ls) ls mid out) c.pot.ensures c.serve_others.ensures))

@@ -3,7 +3,7 @@ use Rattle.std.proofs.lemmas.Int.{to_z-of_z}
 use Rattle.deal.specs.Levels.{turns_from}
 use Rattle.deal.proofs.Turning.{gather_yes, gather_no, gathered}
 use Rattle.deal.proofs.levels.gather.Goals as goal
-use Rattle.deal.proofs.levels.gather.Goals.{then-in-group, else-in-group}
+use Rattle.deal.proofs.levels.gather.Goals.{then-in_group, else-in_group}
 
 pub loop-i-preserved : goal.loop-i-preserved
 loop-i-preserved c =
@@ -17,12 +17,12 @@ loop-i-preserved c =
     let at = c.index-lines-i.is in
     let le = c.loop-i.invariant.0 in
     let all = turns_from v 0 ls in
-    elim c.if-in-group.branch [
-      | then-in-group w ↦
-          let t = sym c.in-group.ensures ∙ w.if-in-group.true in
+    elim c.if-in_group.branch [
+      | then-in_group w ↦
+          let t = sym c.in_group.ensures ∙ w.if-in_group.true in
           (omega (arith, w.n-is), subst₂ (λ m o. take m o ++ turns_from v (i + 1) (drop (i + 1) ls) ≡ all) (sym w.n-is) (sym w.out-is) (gather_yes v ls out n i all c.loop-i.invariant.1 x h at (omega arith) t))
-      | else-in-group w ↦
-          let t = sym c.in-group.ensures ∙ w.if-in-group.false in
+      | else-in_group w ↦
+          let t = sym c.in_group.ensures ∙ w.if-in_group.false in
           (omega (arith, w.n-is), subst₂ (λ m o. take m o ++ turns_from v (i + 1) (drop (i + 1) ls) ≡ all) (sym w.n-is) (sym w.out-is) (gather_no v ls out n i all c.loop-i.invariant.1 x h at t))
     ]
 

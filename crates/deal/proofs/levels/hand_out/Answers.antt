@@ -4,24 +4,24 @@ use Rattle.filling.specs.Totals.{other_at, sizes}
 use Rattle.deal.proofs.Steps.{stands, count_more, within_parts}
 use Rattle.deal.proofs.Passes.{Passed, Passing, part_for, pass_yes, pass_no, pass_all}
 use Rattle.deal.proofs.levels.hand_out.Goals as goal
-use Rattle.deal.proofs.levels.hand_out.Goals.{then-in-group, else-in-group, Then-in-group, at·offset-parts-n, at·index-parts-n, at·add-n}
+use Rattle.deal.proofs.levels.hand_out.Goals.{then-in_group, else-in_group, Then-in_group}
 
 -- the part of a line that gets one is there
-within : (c : Then-in-group) → c.loop-i.n < length c.args.parts.now
+within : (c : Then-in_group) → c.loop-i.n < length c.args.parts.now
 within c =
     let ls = c.args.lines.now in
     let v = to_z w32 (of_z w32 c.args.level) in
     let e = ap (λ w. length (sizes (other_at w) ls)) (sym (to_z-of_z w32 c.args.level c.ranges.level)) in
-    within_parts ls c.loop-i.i c.index-lines-i.result c.loop-i-test.true c.index-lines-i.is (other_at v) (sym c.in-group.ensures ∙ c.if-in-group.true) (length c.args.parts.now) c.loop-i.n (c.requires.each ∙ e) c.loop-i.invariant.0
+    within_parts ls c.loop-i.i c.index-lines-i.result c.loop-i-test.true c.index-lines-i.is (other_at v) (sym c.in_group.ensures ∙ c.if-in_group.true) (length c.args.parts.now) c.loop-i.n (c.requires.each ∙ e) c.loop-i.invariant.0
 
-pub offset-bounds-parts-n : goal.offset-bounds-parts-n
-offset-bounds-parts-n c = let k = within (at·offset-parts-n c).Then-in-group in omega arith
+pub offset_bounds-parts-n : goal.offset_bounds-parts-n
+offset_bounds-parts-n c = let k = within (goal.at.offset_bounds-parts-n c).Then-in_group in omega arith
 
 pub bounds-parts-n : goal.bounds-parts-n
-bounds-parts-n c = within (at·index-parts-n c).Then-in-group
+bounds-parts-n c = within (goal.at.bounds-parts-n c).Then-in_group
 
-pub overflow-add-n : goal.overflow-add-n
-overflow-add-n c = let k = within (at·add-n c).Then-in-group in omega arith
+pub overflow_add-n : goal.overflow_add-n
+overflow_add-n c = let k = within (goal.at.overflow_add-n c).Then-in_group in omega arith
 
 pub loop-i-preserved : goal.loop-i-preserved
 loop-i-preserved c =
@@ -37,14 +37,14 @@ loop-i-preserved c =
     let q = c.loop-i.invariant.1 in
     let e = c.loop-i.invariant.0 in
     let m = count_more ls i x h at p in
-    elim c.if-in-group.branch [
-      | then-in-group w ↦
-          let t = sym c.in-group.ensures ∙ w.if-in-group.true in (
+    elim c.if-in_group.branch [
+      | then-in_group w ↦
+          let t = sym c.in_group.ensures ∙ w.if-in_group.true in (
             omega (arith, w.n-is, m ∙ ap (λ b. length (sizes p (take i ls)) + cond b 1 0) t),
             subst (λ o. Passing p f ls old o (i + 1)) (sym w.out-is) (pass_yes p f ls old c.loop-i.out i x (stands ls i x h at) q _ (omega arith) t (ap (λ k. get_or c.args.parts.now k 0) e)),
           )
-      | else-in-group w ↦
-          let t = sym c.in-group.ensures ∙ w.if-in-group.false in (
+      | else-in_group w ↦
+          let t = sym c.in_group.ensures ∙ w.if-in_group.false in (
             omega (arith, w.n-is, m ∙ ap (λ b. length (sizes p (take i ls)) + cond b 1 0) t),
             subst (λ o. Passing p f ls old o (i + 1)) (sym w.out-is) (pass_no p f ls old c.loop-i.out i x (stands ls i x h at) q t),
           )

@@ -4,7 +4,7 @@ use Rattle.filling.specs.Totals.{customer_at}
 use Rattle.deal.proofs.Steps.{stands, total_yes, total_no}
 use Rattle.deal.proofs.Passes.{Passed, Passing, left_for, pass_yes, pass_no, pass_all}
 use Rattle.deal.proofs.levels.serve_customers.Goals as goal
-use Rattle.deal.proofs.levels.serve_customers.Goals.{then-in-group, else-in-group}
+use Rattle.deal.proofs.levels.serve_customers.Goals.{then-in_group, else-in_group}
 
 pub loop-i-preserved : goal.loop-i-preserved
 loop-i-preserved c =
@@ -18,16 +18,16 @@ loop-i-preserved c =
     let at = c.index-lines-i.is in
     let old = c.args.out.now in
     let q = c.loop-i.invariant.1 in
-    elim c.if-in-group.branch [
-      | then-in-group w ↦
-          let t = sym c.in-group.ensures ∙ w.if-in-group.true in
+    elim c.if-in_group.branch [
+      | then-in_group w ↦
+          let t = sym c.in_group.ensures ∙ w.if-in_group.true in
           let m = w.min-part.ensures in
           let e = c.loop-i.invariant.0 in (
             omega (arith, w.left-is, total_yes ls i x h at p _ t refl),
             subst (λ o. Passing p f ls old o (i + 1)) (sym w.out-is) (pass_yes p f ls old c.loop-i.out i x (stands ls i x h at) q _ (omega arith) t (m ∙ ap (min x.size) e)),
           )
-      | else-in-group w ↦
-          let t = sym c.in-group.ensures ∙ w.if-in-group.false in
+      | else-in_group w ↦
+          let t = sym c.in_group.ensures ∙ w.if-in_group.false in
           let e = c.loop-i.invariant.0 in (
             omega (arith, w.left-is, total_no ls i x h at p _ t refl),
             subst (λ o. Passing p f ls old o (i + 1)) (sym w.out-is) (pass_no p f ls old c.loop-i.out i x (stands ls i x h at) q t),

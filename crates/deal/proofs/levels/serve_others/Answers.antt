@@ -8,37 +8,37 @@ use Rattle.deal.specs.Levels.{turns_from}
 use Rattle.deal.proofs.Passes.{Passed, part_for}
 use Rattle.deal.proofs.Serving.{served}
 use Rattle.deal.proofs.levels.serve_others.Goals as goal
-use Rattle.deal.proofs.levels.serve_others.Goals.{After-share-out, at·hand-out-requires, at·unreachable-requires, at·returns}
+use Rattle.deal.proofs.levels.serve_others.Goals.{After-share_out}
 use Rattle.share.specs.Shares.{shares}
 
 -- the share-out is not refused
-shared : (c : After-share-out) → (is_ok c.share-out.result ≡ true) × (c.share-out.new.out ≡ shares c.args.pot (sizes (other_at c.args.level) c.args.lines.now))
+shared : (c : After-share_out) → (is_ok c.share_out.result ≡ true) × (c.share_out.new.out ≡ shares c.args.pot (sizes (other_at c.args.level) c.args.lines.now))
 shared c =
     let ls = c.args.lines.now in
     let v = c.args.level in
     let n = c.gather-n.result in
     let z : n - 0 ≡ n = omega arith in
     let e = ap (λ m. take m c.gather-n.new.out) z ∙ c.gather-n.ensures.turns ∙ ap (λ w. turns_from w 0 ls) (to_z-of_z w32 v c.ranges.level) in
-    served v ls _ e c.args.pot _ c.requires.few c.requires.within (simp length-take (omega arith)) _ _ c.share-out.ensures.answer c.share-out.ensures.after
+    served v ls _ e c.args.pot _ c.requires.few c.requires.within (simp length-take (omega arith)) _ _ c.share_out.ensures.answer c.share_out.ensures.after
 
-pub hand-out-requires : goal.hand-out-requires
-hand-out-requires c =
+pub hand_out-requires : goal.hand_out-requires
+hand_out-requires c =
     let ls = c.args.lines.now in
     let v = c.args.level in
-    let s = shared (at·hand-out-requires c).After-share-out in
+    let s = shared (goal.at.hand_out-requires c).After-share_out in
     record {
       each = ap length s.1 ∙ one_each c.args.pot (sizes (other_at v) ls) ∙ ap (λ w. length (sizes (other_at w) ls)) (sym (to_z-of_z w32 v c.ranges.level));
       places = c.requires.places;
     }
 
 pub unreachable-requires : goal.unreachable-requires
-unreachable-requires c = false≢true (sym (ap is_ok c.in-Err.is) ∙ (shared (at·unreachable-requires c).After-share-out).0)
+unreachable-requires c = false≢true (sym (ap is_ok c.in-Err.is) ∙ (shared (goal.at.unreachable-requires c).After-share_out).0)
 
 pub returns : goal.returns
 returns c =
     let ls = c.args.lines.now in
     let v = c.args.level in
     let old = c.args.out.now in
-    let out = c.hand-out.new.out in
-    subst (λ ps. Passed (other_at v) (part_for v ps ls) ls old out) (shared (at·returns c).After-share-out).1
-    (subst (λ w. Passed (other_at w) (part_for w c.share-out.new.out ls) ls old out) (to_z-of_z w32 v c.ranges.level) c.hand-out.ensures)
+    let out = c.hand_out.new.out in
+    subst (λ ps. Passed (other_at v) (part_for v ps ls) ls old out) (shared (goal.at.returns c).After-share_out).1
+    (subst (λ w. Passed (other_at w) (part_for w c.share_out.new.out ls) ls old out) (to_z-of_z w32 v c.ranges.level) c.hand_out.ensures)
