@@ -1,5 +1,5 @@
 -- A form's spelling says that form.
-use Rattle.std.proofs.Common.{◌≡◌, ℕ, zero, suc, ◌+◌, ◌-◌, ◌*◌, ◌^◌, ◌<◌, ◌≤◌, Bool, true, false, cond, ◌&&◌, ◌||◌, leb, List, [], ◌∷◌, ◌++◌, map, length, get_or, ℤ, pos, negsuc, neg_ℤ, codes, Decides, sym, refl, ap, ◌∙◌, subst, subst₂, append_assoc, zero-add, zero-mul, arith, rules}
+use Rattle.std.proofs.Common.{◌≡◌, ℕ, zero, suc, ◌+◌, ◌-◌, ◌*◌, ◌^◌, ◌<◌, ◌≤◌, Bool, true, false, ◌&&◌, leb, List, [], ◌∷◌, ◌++◌, map, length, ℤ, pos, neg_ℤ, codes, Decides, sym, refl, ap, ◌∙◌, subst, append_assoc, arith, rules}
 use Rattle.std.specs.Fmt as written
 use Rattle.std.specs.Fmt.{signed_decimal}
 use Rattle.std.specs.List.{AllByRecursion as All}
@@ -14,18 +14,16 @@ use Rattle.market.specs.declared.names.Mechanism.{Mechanism}
 use Rattle.market.specs.declared.names.Mechanism.TheVariants.{Block, Facilitation, Solicited}
 use Rattle.market.specs.declared.names.Side.{Side}
 use Rattle.market.specs.declared.names.Side.TheVariants.{Buy, Sell}
-use Rattle.market.specs.Names.{side_name, class_name, mechanism_name, edge_name, leg_text}
+use Rattle.market.specs.Names.{side_name, class_name, mechanism_name, edge_name}
 use Rattle.words.specs.Bytes.{word_byte, begins}
 use Rattle.words.specs.Number.{decimal, Digit, Numeral, numeral, Number, nought, plain, minus}
 use Rattle.words.specs.Place.{Placed}
 use Rattle.market.specs.declared.names.Edge.{Edge}
 use Rattle.market.specs.declared.names.Edge.TheVariants.{Bid, Offer}
 use Rattle.market.specs.declared.names.Leg.{Leg}
-use Rattle.forms.specs.declared.form.Response.{Response}
 use Rattle.forms.specs.Shapes.{Shape}
 use Rattle.forms.specs.Spelled.{legs_text, more_text, numbers_text, response_text, terms_text, spelling}
-use Rattle.grammar.specs.Grammar.{Piece, Pieces, Bare, bare, Numbers, Legs, Writes, Says, Located, states, words_of, keyed, series, net, quote, rest, away, enter, respond, amend, delete, settle, halt}
-use Rattle.grammar.specs.Grammar as grammar
+use Rattle.grammar.specs.Grammar.{Piece, Pieces, Bare, bare, Numbers, Legs, Writes, Says, states, words_of, keyed, series, net, quote, rest, away, enter, respond, amend, delete, settle, halt}
 
 -- the number that digits write, in the library's words
 own : IsNumeralModel (All Digit) (decimal 0)

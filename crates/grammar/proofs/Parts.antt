@@ -1,15 +1,15 @@
 -- The words of a sheet are parts of it.
-use Rattle.std.proofs.Common.{◌≡◌, ℕ, ◌+◌, ◌<◌, ◌≤◌, Bool, true, false, cond, eqb, List, [], ◌∷◌, ◌++◌, map, length, get_or, take, drop, sym, refl, ap, ◌∙◌, subst, append_assoc, add-zero, add_assoc, arith, length-drop}
+use Rattle.std.proofs.Common.{◌≡◌, ℕ, ◌+◌, ◌<◌, Bool, true, false, cond, eqb, List, [], ◌∷◌, ◌++◌, map, length, get_or, take, drop, sym, refl, ap, ◌∙◌, subst, append_assoc, add-zero, arith, length-drop}
 use Rattle.std.specs.List.{AllByRecursion as All}
-use Rattle.std.proofs.lemmas.List.{at_drop_more, at_drop_all, drop-drop, take_at}
-use Rattle.std.proofs.lemmas.Bool.{cond-true, cond-false, eqb-true, eq-eqb, ne_eqb, cases_lt}
+use Rattle.std.proofs.lemmas.List.{at_drop_more, drop-drop, take_at}
+use Rattle.std.proofs.lemmas.Bool.{cond-true, cond-false, eqb-true, eq-eqb, ne_eqb}
 use Rattle.words.specs.Bytes.{word_byte, front, behind}
 use Rattle.words.specs.Place.{line_at, column_at, Placed, PartOf}
 use Rattle.words.proofs.ByteKinds.{Told, told, word_kind}
 use Rattle.words.proofs.Places.{line_more, column_more}
 use Rattle.grammar.specs.Grammar.{Piece, Pieces, Said, Says, Located, states, words_of}
 use Rattle.grammar.specs.Reading.{later}
-use Rattle.grammar.specs.Sheets.{lines, Holds, Reads, Parts}
+use Rattle.grammar.specs.Sheets.{Holds, Reads, Parts}
 use Rattle.grammar.proofs.Sheets.{lines_are}
 
 -- at this offset of the sheet these bytes are left, at this line and column

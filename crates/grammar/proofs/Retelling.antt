@@ -1,15 +1,14 @@
 -- A listing of forms reads as those forms.
-use Rattle.std.proofs.Common.{◌≡◌, ℕ, ◌+◌, Bool, true, false, cond, eqb, List, [], ◌∷◌, ◌++◌, map, codes, sym, refl, ap, ◌∙◌, subst, arith}
+use Rattle.std.proofs.Common.{◌≡◌, ℕ, ◌+◌, true, false, eqb, List, [], ◌∷◌, ◌++◌, map, sym, refl, ap, ◌∙◌, subst, arith}
 use Rattle.std.specs.List.{AllByRecursion as All}
 use Rattle.std.proofs.lemmas.Bool.{cond-false, ne_eqb}
 use Rattle.words.specs.Bytes.{word_byte}
-use Rattle.words.specs.Place.{Placed}
 use Rattle.words.proofs.ByteKinds.{Told, told, word_kind}
 use Rattle.forms.specs.Shapes.{Shape, is_house}
 use Rattle.forms.specs.Spelled.{spelling}
 use Rattle.grammar.specs.Grammar.{Piece, Pieces, Bare, bare, Writes, Said, Says, Located, states}
 use Rattle.grammar.specs.Listing.{listing, shapes_of, Retold}
-use Rattle.grammar.specs.Sheets.{ahead, lines, Holds, InOrder, some, Reads}
+use Rattle.grammar.specs.Sheets.{ahead, lines, Holds, InOrder, some}
 use Rattle.grammar.proofs.Canon.{says_itself}
 
 -- these bytes lie on one line

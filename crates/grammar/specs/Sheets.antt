@@ -2,7 +2,7 @@
 use Rattle.std.specs.Prelude.{◌≡◌, ℕ, ◌+◌, ◌<◌, ◌≤◌, Bool, true, false, cond, List, [], ◌∷◌, ◌++◌, length, ◌==◌}
 use Rattle.std.specs.List.{AllByRecursion as All}
 use Rattle.words.specs.Place.{PartOf}
-use Rattle.forms.specs.Shapes.{Shape, is_house}
+use Rattle.forms.specs.Shapes.{is_house}
 use Rattle.grammar.specs.Grammar.{Located, Said, blank, states, Says}
 
 -- the most bytes that a sheet has
