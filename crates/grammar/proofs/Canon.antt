@@ -1,8 +1,8 @@
 -- A form's spelling says that form.
-use Rattle.std.proofs.Common.{◌≡◌, ℕ, zero, suc, ◌+◌, ◌-◌, ◌*◌, ◌^◌, ◌<◌, ◌≤◌, Bool, true, false, cond, ◌&&◌, ◌||◌, leb, List, [], ◌∷◌, ◌++◌, map, length, get_or, ℤ, pos, negsuc, neg_ℤ, codes, Decides, sym, refl, ap, ◌∙◌, subst, subst₂, append_assoc, zero-add, zero-mul, arith, rules}
+use Rattle.std.proofs.Common.{◌≡◌, ℕ, zero, suc, ◌+◌, ◌-◌, ◌*◌, ◌^◌, ◌<◌, ◌≤◌, Bool, true, false, ◌&&◌, leb, List, [], ◌∷◌, ◌++◌, map, length, ℤ, pos, neg_ℤ, codes, Decides, sym, refl, ap, ◌∙◌, subst, append_assoc, arith, rules}
 use Rattle.std.specs.Fmt as written
 use Rattle.std.specs.Fmt.{signed_decimal}
-use Rattle.std.specs.List.{AllByRecursion as All}
+use Rattle.std.specs.List.{AllByRecursion}
 use Rattle.std.proofs.lemmas.Fmt.{decimal-digits_value, decimal_digit}
 use Rattle.std.proofs.lemmas.Str.Parse.{IsNumeralModel, numerals_by_fold, digits_value_short}
 use Rattle.std.proofs.lemmas.Bool.{leb-true, le-leb}
@@ -14,29 +14,27 @@ use Rattle.market.specs.declared.names.Mechanism.{Mechanism}
 use Rattle.market.specs.declared.names.Mechanism.TheVariants.{Block, Facilitation, Solicited}
 use Rattle.market.specs.declared.names.Side.{Side}
 use Rattle.market.specs.declared.names.Side.TheVariants.{Buy, Sell}
-use Rattle.market.specs.Names.{side_name, class_name, mechanism_name, edge_name, leg_text}
+use Rattle.market.specs.Names.{side_name, class_name, mechanism_name, edge_name}
 use Rattle.words.specs.Bytes.{word_byte, begins}
 use Rattle.words.specs.Number.{decimal, Digit, Numeral, numeral, Number, nought, plain, minus}
 use Rattle.words.specs.Place.{Placed}
 use Rattle.market.specs.declared.names.Edge.{Edge}
 use Rattle.market.specs.declared.names.Edge.TheVariants.{Bid, Offer}
 use Rattle.market.specs.declared.names.Leg.{Leg}
-use Rattle.forms.specs.declared.form.Response.{Response}
 use Rattle.forms.specs.Shapes.{Shape}
 use Rattle.forms.specs.Spelled.{legs_text, more_text, numbers_text, response_text, terms_text, spelling}
-use Rattle.grammar.specs.Grammar.{Piece, Pieces, Bare, bare, Numbers, Legs, Writes, Says, Located, states, words_of, keyed, series, net, quote, rest, away, enter, respond, amend, delete, settle, halt}
-use Rattle.grammar.specs.Grammar as grammar
+use Rattle.grammar.specs.Grammar.{Piece, Pieces, Bare, bare, Numbers, Legs, Writes, Says, states, words_of, keyed, series, net, quote, rest, away, enter, respond, amend, delete, settle, halt}
 
 -- the number that digits write, in the library's words
-own : IsNumeralModel (All Digit) (decimal 0)
-own = numerals_by_fold (All Digit) (search rules) decimal (search rules)
+own : IsNumeralModel (AllByRecursion Digit) (decimal 0)
+own = numerals_by_fold (AllByRecursion Digit) (search rules) decimal (search rules)
 
 from_nought : (d : ℕ) (ds : List ℕ) → decimal 0 (d ∷ ds) ≡ decimal (d - 48) ds
 from_nought d ds = ap (λ n. decimal n ds) (let e : 0 * 10 + (d - 48) ≡ d - 48 = omega arith in e)
 
 numeral_canon : {w : List ℕ} {n : ℕ} → Numeral w n → w ≡ written.decimal n
 numeral_canon (numeral {d = d} {ds = ds} lo hi all few) =
-    let a : All Digit (d ∷ ds) = ((omega arith, hi), all) in
+    let a : AllByRecursion Digit (d ∷ ds) = ((omega arith, hi), all) in
     let small : decimal 0 (d ∷ ds) < 10 ^ 13 = digits_value_short own (d ∷ ds) 13 a (omega arith) in
     sym (decimal-digits_value own (d ∷ ds) a (omega arith) (λ e. omega arith) (omega arith)) ∙ ap written.decimal (from_nought d ds)
 
@@ -61,16 +59,16 @@ canon (minus {ds = ds} {n = n} r) = go n (numeral_some r) (numeral_canon r)
 record Fit (w : List ℕ) : Type 0 where
   some : 1 ≤ length w
   few : length w ≤ 16
-  bytes : All (λ b. word_byte b ≡ true) w
+  bytes : AllByRecursion (λ b. word_byte b ≡ true) w
 
 digit_byte : (d : ℕ) → Digit d → word_byte d ≡ true
 digit_byte d h = grind (arith, nat_tests)
 
-digit_bytes : (ds : List ℕ) → All Digit ds → All (λ b. word_byte b ≡ true) ds
+digit_bytes : (ds : List ℕ) → AllByRecursion Digit ds → AllByRecursion (λ b. word_byte b ≡ true) ds
 digit_bytes [] a = tt
 digit_bytes (d ∷ ds) a = (digit_byte d a.0, digit_bytes ds a.1)
 
-numeral_fit : {w : List ℕ} {n : ℕ} → Numeral w n → (1 ≤ length w) × (length w ≤ 13) × All (λ b. word_byte b ≡ true) w
+numeral_fit : {w : List ℕ} {n : ℕ} → Numeral w n → (1 ≤ length w) × (length w ≤ 13) × AllByRecursion (λ b. word_byte b ≡ true) w
 numeral_fit (numeral {d = d} {ds = ds} lo hi all few) = (omega arith, omega arith, (digit_byte d (omega arith, hi), digit_bytes ds all))
 
 number_fit : {x : List ℕ} {n : ℤ} → Number x n → Fit x
@@ -106,7 +104,7 @@ abbrev all_bytes : List ℕ → Bool
 all_bytes [] = true
 all_bytes (b ∷ bs) = word_byte b && all_bytes bs
 
-decides_bytes : (w : List ℕ) → Decides (all_bytes w) (All (λ b. word_byte b ≡ true) w)
+decides_bytes : (w : List ℕ) → Decides (all_bytes w) (AllByRecursion (λ b. word_byte b ≡ true) w)
 decides_bytes = Decides-by_and word_byte (λ b. word_byte b ≡ true) all_bytes (λ b. (λ e. e, λ e. e)) refl (λ _ _. refl)
 
 fit : (w : List ℕ) → (leb 1 (length w) && (leb (length w) 16 && all_bytes w)) ≡ true → Fit w

@@ -1,6 +1,6 @@
 -- The tokens of a line agree with the grammar's pieces.
 use Rattle.std.proofs.Common.{◌≡◌, ℕ, ◌+◌, ◌≤◌, Bool, true, false, cond, eqb, leb, List, [], ◌∷◌, ◌++◌, map, length, sym, refl, ap, ◌∙◌, subst, append_assoc, arith}
-use Rattle.std.specs.List.{AllByRecursion as All}
+use Rattle.std.specs.List.{AllByRecursion}
 use Rattle.std.proofs.lemmas.Bool.{cond-true, cond-false, le-leb, leb-true, both_ways, ne_eqb, eq-eqb, eqb-true}
 use Rattle.words.specs.declared.bytes.Kind.{Kind}
 use Rattle.words.specs.declared.bytes.Kind.TheVariants.{LineEnd, Space, Open, Close, Semicolon, Letter, Other}
@@ -101,7 +101,7 @@ lex_ends l c (b ∷ bs) = kind_ends l c b bs (kind b) (lex l (c + 1) bs) (told b
 record Front (l c : ℕ) (s : List ℕ) (p : Placed) (ps : List Piece) : Type 0 where
   t : List ℕ
   parts : s ≡ p.bytes ++ t
-  all : All (λ b. word_byte b ≡ true) p.bytes
+  all : AllByRecursion (λ b. word_byte b ≡ true) p.bytes
   stops : begins t ≡ false
   left : Pieces l (c + length p.bytes) t ps
 
@@ -169,7 +169,7 @@ begins_more : (s t : List ℕ) → begins s ≡ false → begins t ≡ false →
 begins_more [] t e h = h
 begins_more (b ∷ s) t e h = e
 
-word_lexed : (l c : ℕ) (w s t : List ℕ) (ps : List Piece) → 1 ≤ length w → length w ≤ 16 → All (λ b. word_byte b ≡ true) w → begins s ≡ false → Lexed l t ps (lex l (c + length w) s) → Lexed l t (Piece.word (record { line = l; column = c; bytes = w }) ∷ ps) (lex l c (w ++ s))
+word_lexed : (l c : ℕ) (w s t : List ℕ) (ps : List Piece) → 1 ≤ length w → length w ≤ 16 → AllByRecursion (λ b. word_byte b ≡ true) w → begins s ≡ false → Lexed l t ps (lex l (c + length w) s) → Lexed l t (Piece.word (record { line = l; column = c; bytes = w }) ∷ ps) (lex l c (w ++ s))
 word_lexed l c [] s t ps some few all stops i = absurd (omega arith)
 word_lexed l c (b ∷ w) s t ps some few all stops i =
     subst (Lexed l t (Piece.word (record { line = l; column = c; bytes = b ∷ w }) ∷ ps)) (sym (lex_word l c b w s all stops ∙ cond-true _ _ _ (le-leb _ 16 few)))

@@ -1,15 +1,15 @@
 -- The words of a sheet are parts of it.
-use Rattle.std.proofs.Common.{◌≡◌, ℕ, ◌+◌, ◌<◌, ◌≤◌, Bool, true, false, cond, eqb, List, [], ◌∷◌, ◌++◌, map, length, get_or, take, drop, sym, refl, ap, ◌∙◌, subst, append_assoc, add-zero, add_assoc, arith, length-drop}
-use Rattle.std.specs.List.{AllByRecursion as All}
-use Rattle.std.proofs.lemmas.List.{at_drop_more, at_drop_all, drop-drop, take_at}
-use Rattle.std.proofs.lemmas.Bool.{cond-true, cond-false, eqb-true, eq-eqb, ne_eqb, cases_lt}
+use Rattle.std.proofs.Common.{◌≡◌, ℕ, ◌+◌, ◌<◌, Bool, true, false, cond, eqb, List, [], ◌∷◌, ◌++◌, map, length, get_or, take, drop, sym, refl, ap, ◌∙◌, subst, append_assoc, add-zero, arith, length-drop}
+use Rattle.std.specs.List.{AllByRecursion}
+use Rattle.std.proofs.lemmas.List.{at_drop_more, drop-drop, take_at}
+use Rattle.std.proofs.lemmas.Bool.{cond-true, cond-false, eqb-true, eq-eqb, ne_eqb}
 use Rattle.words.specs.Bytes.{word_byte, front, behind}
 use Rattle.words.specs.Place.{line_at, column_at, Placed, PartOf}
 use Rattle.words.proofs.ByteKinds.{Told, told, word_kind}
 use Rattle.words.proofs.Places.{line_more, column_more}
 use Rattle.grammar.specs.Grammar.{Piece, Pieces, Said, Says, Located, states, words_of}
 use Rattle.grammar.specs.Reading.{later}
-use Rattle.grammar.specs.Sheets.{lines, Holds, Reads, Parts}
+use Rattle.grammar.specs.Sheets.{Holds, Reads, Parts}
 use Rattle.grammar.proofs.Sheets.{lines_are}
 
 -- at this offset of the sheet these bytes are left, at this line and column
@@ -44,7 +44,7 @@ not_ten : (b : ℕ) → word_byte b ≡ true → b ≡ 10 → ⊥
 not_ten b h e = (subst (λ k. Told k b) (word_kind b h) (told b)).1 e
 
 -- past a word
-past : {s : List ℕ} {l : ℕ} (w t : List ℕ) (at c : ℕ) → All (λ b. word_byte b ≡ true) w → At s at l c (w ++ t) → At s (at + length w) l (c + length w) t
+past : {s : List ℕ} {l : ℕ} (w t : List ℕ) (at c : ℕ) → AllByRecursion (λ b. word_byte b ≡ true) w → At s at l c (w ++ t) → At s (at + length w) l (c + length w) t
 past {s} {l} [] t at c a h = subst (λ n. At s n l (c + 0) t) (sym (add-zero at)) (subst (λ n. At s at l n t) (sym (add-zero c)) h)
 past {s} {l} (b ∷ w) t at c a h =
     let i : at + 1 + length w ≡ at + length (b ∷ w) = omega arith in
@@ -54,7 +54,7 @@ past {s} {l} (b ∷ w) t at c a h =
 word_part : {s : List ℕ} {at l c : ℕ} (w t : List ℕ) → At s at l c (w ++ t) → PartOf s (record { line = l; column = c; bytes = w })
 word_part {s} {at} w t h = record { at = at; bytes = sym (ap (take (length w)) h.left ∙ take_at w t _ refl); line = h.line; column = h.column }
 
-pieces_parts : {s : List ℕ} {l c : ℕ} {u : List ℕ} {ps : List Piece} (v : List ℕ) (at : ℕ) → Pieces l c u ps → At s at l c (u ++ v) → All (PartOf s) (words_of ps)
+pieces_parts : {s : List ℕ} {l c : ℕ} {u : List ℕ} {ps : List Piece} (v : List ℕ) (at : ℕ) → Pieces l c u ps → At s at l c (u ++ v) → AllByRecursion (PartOf s) (words_of ps)
 pieces_parts v at Pieces.end h = tt
 pieces_parts v at (Pieces.space p) h = pieces_parts v (at + 1) p (step h (λ e. omega arith))
 pieces_parts v at (Pieces.opens p) h = pieces_parts v (at + 1) p (step h (λ e. omega arith))
@@ -63,11 +63,11 @@ pieces_parts {s} {l} {c} v at (Pieces.words {w = w} {s = t} some few all stops p
     let k = subst (At s at l c) (append_assoc w t v) h in
     (word_part w (t ++ v) k, pieces_parts v (at + length w) p (past w (t ++ v) at c all k))
 
-says_parts : {s : List ℕ} {l c : ℕ} {u : List ℕ} {x : Said} (v : List ℕ) (f : Located) (at : ℕ) → Says l c u x → x ≡ states f → At s at l c (u ++ v) → All (PartOf s) f.words
+says_parts : {s : List ℕ} {l c : ℕ} {u : List ℕ} {x : Said} (v : List ℕ) (f : Located) (at : ℕ) → Says l c u x → x ≡ states f → At s at l c (u ++ v) → AllByRecursion (PartOf s) f.words
 says_parts v f at Says.nothing e h = let z : ◌≡◌ {A = ℕ} 0 1 = cc in absurd (omega arith)
 says_parts v f at Says.comment e h = let z : ◌≡◌ {A = ℕ} 0 1 = cc in absurd (omega arith)
 says_parts v f at (Says.space p) e h = says_parts v f (at + 1) p e (step h (λ i. omega arith))
-says_parts {s} v f at (Says.form {ps = ps} p w) e h = let i : words_of ps ≡ f.words = ap said_words e in subst (All (PartOf s)) i (pieces_parts v at p h)
+says_parts {s} v f at (Says.form {ps = ps} p w) e h = let i : words_of ps ≡ f.words = ap said_words e in subst (AllByRecursion (PartOf s)) i (pieces_parts v at p h)
   where
     said_words : Said → List Placed
     said_words Said.blank = []

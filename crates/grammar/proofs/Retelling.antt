@@ -1,22 +1,21 @@
 -- A listing of forms reads as those forms.
-use Rattle.std.proofs.Common.{◌≡◌, ℕ, ◌+◌, Bool, true, false, cond, eqb, List, [], ◌∷◌, ◌++◌, map, codes, sym, refl, ap, ◌∙◌, subst, arith}
-use Rattle.std.specs.List.{AllByRecursion as All}
+use Rattle.std.proofs.Common.{◌≡◌, ℕ, ◌+◌, true, false, eqb, List, [], ◌∷◌, ◌++◌, map, sym, refl, ap, ◌∙◌, subst, arith}
+use Rattle.std.specs.List.{AllByRecursion}
 use Rattle.std.proofs.lemmas.Bool.{cond-false, ne_eqb}
 use Rattle.words.specs.Bytes.{word_byte}
-use Rattle.words.specs.Place.{Placed}
 use Rattle.words.proofs.ByteKinds.{Told, told, word_kind}
 use Rattle.forms.specs.Shapes.{Shape, is_house}
 use Rattle.forms.specs.Spelled.{spelling}
 use Rattle.grammar.specs.Grammar.{Piece, Pieces, Bare, bare, Writes, Said, Says, Located, states}
 use Rattle.grammar.specs.Listing.{listing, shapes_of, Retold}
-use Rattle.grammar.specs.Sheets.{ahead, lines, Holds, InOrder, some, Reads}
+use Rattle.grammar.specs.Sheets.{ahead, lines, Holds, InOrder, some}
 use Rattle.grammar.proofs.Canon.{says_itself}
 
 -- these bytes lie on one line
 abbrev OneLine : List ℕ → Type 0
-OneLine s = All (λ b. eqb b 10 ≡ false) s
+OneLine s = AllByRecursion (λ b. eqb b 10 ≡ false) s
 
-word_line : (w s : List ℕ) → All (λ b. word_byte b ≡ true) w → OneLine s → OneLine (w ++ s)
+word_line : (w s : List ℕ) → AllByRecursion (λ b. word_byte b ≡ true) w → OneLine s → OneLine (w ++ s)
 word_line [] s a h = h
 word_line (b ∷ w) s a h = (ne_eqb b 10 (subst (λ k. Told k b) (word_kind b a.0) (told b)).1, word_line w s a.1 h)
 
@@ -52,12 +51,12 @@ says_written f (Says.form {ps = ps} {f = g} p w) e = (map bare ps, subst (Writes
     shape_of Said.blank = g
     shape_of (states h) = h.shape
 
-holds_written : {n : ℕ} {ls : List (List ℕ)} {fs : List Located} → Holds n ls fs → All Written fs
+holds_written : {n : ℕ} {ls : List (List ℕ)} {fs : List Located} → Holds n ls fs → AllByRecursion Written fs
 holds_written Holds.none = tt
 holds_written (Holds.empty a p) = holds_written p
 holds_written (Holds.form {f = f} a p) = (says_written f a refl, holds_written p)
 
-retold_holds : (n : ℕ) (fs : List Located) → All Written fs → (gs : List Located) × Holds n (lines (listing fs)) gs × (shapes_of gs ≡ shapes_of fs)
+retold_holds : (n : ℕ) (fs : List Located) → AllByRecursion Written fs → (gs : List Located) × Holds n (lines (listing fs)) gs × (shapes_of gs ≡ shapes_of fs)
 retold_holds n [] a = ([], Holds.empty Says.nothing Holds.none, refl)
 retold_holds n (f ∷ fs) a =
     let p = says_itself a.0.1 n 1 in
@@ -68,13 +67,13 @@ retold_holds n (f ∷ fs) a =
 -- the order of forms is that of their shapes
 abbrev Ordered : List Shape → Type 0
 Ordered [] = Unit {0}
-Ordered (f ∷ fs) = (is_house f ≡ true) × All (λ g. is_house g ≡ false) fs
+Ordered (f ∷ fs) = (is_house f ≡ true) × AllByRecursion (λ g. is_house g ≡ false) fs
 
-shapes_others : (fs : List Located) → All (λ y. is_house y.shape ≡ false) fs → All (λ g. is_house g ≡ false) (shapes_of fs)
+shapes_others : (fs : List Located) → AllByRecursion (λ y. is_house y.shape ≡ false) fs → AllByRecursion (λ g. is_house g ≡ false) (shapes_of fs)
 shapes_others [] a = tt
 shapes_others (f ∷ fs) a = (a.0, shapes_others fs a.1)
 
-others_shapes : (fs : List Located) → All (λ g. is_house g ≡ false) (shapes_of fs) → All (λ y. is_house y.shape ≡ false) fs
+others_shapes : (fs : List Located) → AllByRecursion (λ g. is_house g ≡ false) (shapes_of fs) → AllByRecursion (λ y. is_house y.shape ≡ false) fs
 others_shapes [] a = tt
 others_shapes (f ∷ fs) a = (a.0, others_shapes fs a.1)
 

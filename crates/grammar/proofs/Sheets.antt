@@ -1,6 +1,6 @@
 -- A whole sheet, by the relation and by the function.
-use Rattle.std.proofs.Common.{◌≡◌, ℕ, ◌+◌, ◌<◌, ◌≤◌, Bool, true, false, cond, eqb, ltb, ◌⊎◌, List, [], ◌∷◌, ◌++◌, map, length, Ok, Err, Result, sym, refl, ap, ◌∙◌, subst, subst₂, inl, inr, add-zero, arith}
-use Rattle.std.specs.List.{AllByRecursion as All}
+use Rattle.std.proofs.Common.{◌≡◌, ℕ, ◌+◌, ◌≤◌, Bool, true, false, cond, eqb, ltb, ◌⊎◌, List, [], ◌∷◌, ◌++◌, map, length, Ok, Err, Result, sym, refl, ap, ◌∙◌, subst, subst₂, inl, inr, add-zero, arith}
+use Rattle.std.specs.List.{AllByRecursion}
 use Rattle.std.proofs.lemmas.Bool.{cond-true, cond-false, ltb-true, ltb-false, lt-ltb, le-ltb}
 use Rattle.words.specs.Bytes.{front}
 use Rattle.forms.specs.declared.fault.Fault.{Fault}
@@ -69,11 +69,11 @@ abbrev also : Bool → List Located → Bool
 also b [] = b
 also b (x ∷ xs) = true
 
-fine_all : (xs : List Located) → All (λ y. is_house y.shape ≡ false) xs → Fine true xs
+fine_all : (xs : List Located) → AllByRecursion (λ y. is_house y.shape ≡ false) xs → Fine true xs
 fine_all [] a = tt
 fine_all (x ∷ xs) a = (fits_later x.shape a.0, fine_all xs a.1)
 
-all_fine : (xs : List Located) → Fine true xs → All (λ y. is_house y.shape ≡ false) xs
+all_fine : (xs : List Located) → Fine true xs → AllByRecursion (λ y. is_house y.shape ≡ false) xs
 all_fine [] a = tt
 all_fine (x ∷ xs) a = (later_fits x.shape a.0, all_fine xs a.1)
 

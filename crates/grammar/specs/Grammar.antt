@@ -1,7 +1,7 @@
 -- The grammar of a line: from bytes to a form with its words. Bytes are numbers: 32 is a space, 40 and 41 are brackets, 59 is
 -- a semicolon.
 use Rattle.std.specs.Prelude.{◌≡◌, ℕ, ◌+◌, ◌≤◌, true, false, List, [], ◌∷◌, ◌++◌, map, length, ℤ, codes}
-use Rattle.std.specs.List.{AllByRecursion as All}
+use Rattle.std.specs.List.{AllByRecursion}
 use Rattle.market.specs.declared.names.Side.{Side}
 use Rattle.market.specs.declared.names.Class.{Class}
 use Rattle.market.specs.declared.names.Mechanism.{Mechanism}
@@ -27,7 +27,7 @@ pub data Pieces (l : ℕ) : ℕ → List ℕ → List Piece → Type 0 where
   space : {c : ℕ} {s : List ℕ} {ps : List Piece} → Pieces l (c + 1) s ps → Pieces l c (32 ∷ s) ps
   opens : {c : ℕ} {s : List ℕ} {ps : List Piece} → Pieces l (c + 1) s ps → Pieces l c (40 ∷ s) (opening ∷ ps)
   closes : {c : ℕ} {s : List ℕ} {ps : List Piece} → Pieces l (c + 1) s ps → Pieces l c (41 ∷ s) (closing ∷ ps)
-  words : {c : ℕ} {w s : List ℕ} {ps : List Piece} → 1 ≤ length w → length w ≤ 16 → All (λ b. word_byte b ≡ true) w → begins s ≡ false → Pieces l (c + length w) s ps
+  words : {c : ℕ} {w s : List ℕ} {ps : List Piece} → 1 ≤ length w → length w ≤ 16 → AllByRecursion (λ b. word_byte b ≡ true) w → begins s ≡ false → Pieces l (c + length w) s ps
       → Pieces l c (w ++ s) (word (record { line = l; column = c; bytes = w }) ∷ ps)
 
 -- A bracket, or a word without its place.

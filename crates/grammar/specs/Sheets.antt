@@ -1,8 +1,8 @@
 -- The grammar of a whole sheet, and why one is not read.
 use Rattle.std.specs.Prelude.{◌≡◌, ℕ, ◌+◌, ◌<◌, ◌≤◌, Bool, true, false, cond, List, [], ◌∷◌, ◌++◌, length, ◌==◌}
-use Rattle.std.specs.List.{AllByRecursion as All}
+use Rattle.std.specs.List.{AllByRecursion}
 use Rattle.words.specs.Place.{PartOf}
-use Rattle.forms.specs.Shapes.{Shape, is_house}
+use Rattle.forms.specs.Shapes.{is_house}
 use Rattle.grammar.specs.Grammar.{Located, Said, blank, states, Says}
 
 -- the most bytes that a sheet has
@@ -28,7 +28,7 @@ pub data Holds : ℕ → List (List ℕ) → List Located → Type 0 where
 -- The first of these forms is a house form, and no other is.
 abbrev pub InOrder : List Located → Type 0
 InOrder [] = Unit {0}
-InOrder (x ∷ xs) = (is_house x.shape ≡ true) × All (λ y. is_house y.shape ≡ false) xs
+InOrder (x ∷ xs) = (is_house x.shape ≡ true) × AllByRecursion (λ y. is_house y.shape ≡ false) xs
 
 abbrev pub some : {A : Type 0} → List A → Bool
 some [] = false
@@ -56,4 +56,4 @@ pub data Unread (s : List ℕ) : ℕ → ℕ → Type 0 where
 
 -- the words of these forms are parts of the sheet
 abbrev pub Parts : List ℕ → List Located → Type 0
-Parts s fs = All (λ f. All (PartOf s) f.words) fs
+Parts s fs = AllByRecursion (λ f. AllByRecursion (PartOf s) f.words) fs

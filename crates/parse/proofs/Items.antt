@@ -1,5 +1,5 @@
 -- A list, item by item.
-use Rattle.std.proofs.Common.{◌≡◌, ℕ, zero, suc, ◌<◌, List, [], ◌∷◌, ◌++◌, length, ℤ, Some, None, Ok, Err, Option, sym, refl, ap, ◌∙◌, append_assoc, arith}
+use Rattle.std.proofs.Common.{◌≡◌, ℕ, zero, suc, ◌<◌, List, [], ◌∷◌, ◌++◌, length, ℤ, Some, None, Ok, Err, Option, refl, ap, ◌∙◌, append_assoc, arith}
 use Rattle.words.specs.Tokens.{Tok}
 use Rattle.market.specs.declared.names.Edge.{Edge}
 use Rattle.forms.specs.declared.trouble.Trouble.{Trouble}

@@ -1,5 +1,5 @@
 -- Why a line is outside the grammar.
-use Rattle.std.specs.Prelude.{ℕ, List, []}
+use Rattle.std.specs.Prelude.{ℕ, []}
 use Rattle.words.specs.declared.token.Token.{Token}
 use Rattle.words.specs.declared.token.Token.TheVariants.{Open, Close, Word, BadByte, LongWord, End}
 use Rattle.words.specs.Tokens.{Tok, opening, closing, word, bad_byte, long_word, end}

@@ -1,5 +1,5 @@
 -- What a reader stands before, and what it gives.
-use Rattle.std.specs.Prelude.{◌≡◌, Bool, List, [], ◌∷◌, Some, None, Ok, Err, Option, Result}
+use Rattle.std.specs.Prelude.{◌≡◌, Bool, List, Ok, Err, Result}
 use Rattle.words.specs.Tokens.{Tok}
 use Rattle.words.specs.View as words
 use Rattle.parse.specs.declared.names.Begun.{Begun}

@@ -1,5 +1,5 @@
 -- One line, read by a reader.
-use Rattle.std.proofs.Common.{◌≡◌, ℕ, ◌+◌, Bool, true, false, cond, List, [], ◌∷◌, drop, Some, None, Ok, Err, Option, Result, sym, refl, ap, ◌∙◌, subst, arith}
+use Rattle.std.proofs.Common.{◌≡◌, ℕ, ◌+◌, Bool, true, false, cond, List, [], ◌∷◌, drop, Ok, Err, Result, sym, refl, ap, ◌∙◌, subst, arith}
 use Rattle.words.specs.declared.bytes.Kind.{Kind}
 use Rattle.words.specs.declared.bytes.Kind.TheVariants.{LineEnd, Space, Open, Close, Semicolon, Letter, Other}
 use Rattle.words.specs.Bytes.{next, behind, Skips, none, more}
@@ -9,7 +9,7 @@ use Rattle.words.proofs.Spaces.{skips_behind}
 use Rattle.forms.specs.declared.trouble.Trouble.{Trouble}
 use Rattle.forms.specs.Shapes.{Shape, shape, is_house}
 use Rattle.parse.specs.declared.reader.Reader.{Reader}
-use Rattle.parse.specs.Parser.{Read, seen, then, form_of, end_of}
+use Rattle.parse.specs.Parser.{Read, then, form_of, end_of}
 use Rattle.parse.specs.declared.trouble.FormError.{FormError}
 use Rattle.parse.specs.declared.trouble.FormError.TheVariants as form
 use Rattle.parse.specs.View.{tokens, is_house_of, Built}
@@ -18,7 +18,7 @@ use Rattle.grammar.specs.Reading.{formed, start, line_of}
 use Rattle.grammar.proofs.Fields.{ok_same}
 use Rattle.grammar.proofs.Lexed.{Ends, lex_ends}
 use Rattle.grammar.proofs.Saying.{line_end}
-use Rattle.sheet.specs.Lines.{blank_at, line_here, SameLine, house_in, LineRead}
+use Rattle.sheet.specs.Lines.{blank_at, line_here, SameLine, LineRead}
 
 both : {A : Type 0} → false ≡ true → A
 both e = let z : ◌≡◌ {A = ℕ} 1 0 = ap (λ b. cond b 0 1) e in absurd (omega arith)

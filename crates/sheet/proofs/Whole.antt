@@ -16,8 +16,8 @@ use Rattle.forms.specs.Shapes.{Shape, is_house}
 use Rattle.parse.specs.declared.reader.Reader.{Reader}
 use Rattle.grammar.specs.Grammar as grammar
 use Rattle.grammar.specs.Grammar.{Said, states}
-use Rattle.grammar.specs.Reading.{line_of, later, fits, stray, before, on_line, read_lines, read_of, accepted, verdict_of}
-use Rattle.grammar.specs.Sheets.{longest, some, Reads, Unread}
+use Rattle.grammar.specs.Reading.{line_of, later, fits, before, on_line, read_lines, read_of, accepted, verdict_of}
+use Rattle.grammar.specs.Sheets.{longest, some, Reads}
 use Rattle.grammar.proofs.Fields.{ok_same}
 use Rattle.grammar.proofs.Parts.{reads_parts}
 use Rattle.grammar.proofs.Sheets.{ok_or_err, whole, read_sound, read_complete, fault_sound, fault_complete}

@@ -1,4 +1,4 @@
-use Rattle.std.proofs.Common.{◌+◌, [], length, sym, ap, ◌∙◌}
+use Rattle.std.proofs.Common.{◌+◌, [], sym, ap, ◌∙◌}
 use Rattle.std.proofs.lemmas.Result.{err_from_is_err_and}
 use Rattle.std.proofs.lemmas.Bool.{cond-true, ltb-false}
 use Rattle.grammar.specs.Reading.{accepted, read_lines}
@@ -6,29 +6,29 @@ use Rattle.grammar.specs.Sheets.{longest}
 use Rattle.sheet.proofs.Whole.{verdict_is, judging_first, judging_fault, judging_more, judging_last, next_shorter}
 use Rattle.sheet.proofs.reading.verdict.Goals as goal
 
-pub returns-then-too-long : goal.returns-then-too-long
-returns-then-too-long c = let s = c.args.sheet.now in verdict_is s _ (sym (ap accepted (cond-true _ _ _ (sym c.too-long.ensures ∙ c.if-too-long.true))))
+pub returns-then-too_long : goal.returns-then-too_long
+returns-then-too_long c = let s = c.args.sheet.now in verdict_is s _ (sym (ap accepted (cond-true _ _ _ (sym c.too_long.ensures ∙ c.if-too_long.true))))
 
 pub loop-forms-init : goal.loop-forms-init
-loop-forms-init c = let i = c.new-reader.ensures in judging_first c.args.sheet.now c.new-reader.result (ltb-false longest _ (sym c.too-long.ensures ∙ c.if-too-long.false)) i.0 i.1 i.2 i.3
+loop-forms-init c = let i = c.new-reader.ensures in judging_first c.args.sheet.now c.new-reader.result (ltb-false longest _ (sym c.too_long.ensures ∙ c.if-too_long.false)) i.0 i.1 i.2 i.3
 
-pub returns-in-err-forms : goal.returns-in-err-forms
-returns-in-err-forms c =
-    let p = err_from_is_err_and c.from-residual.result c.from-residual.ensures.1 in
-    rw (p.1, p.2) (verdict_is _ _ (judging_fault _ c.loop-forms.reader c.judge-line.new.reader c.loop-forms.forms _ c.loop-forms.invariant c.in-err-forms.ensures))
+pub returns-in_err-forms : goal.returns-in_err-forms
+returns-in_err-forms c =
+    let p = err_from_is_err_and c.from_residual.result c.from_residual.ensures.1 in
+    rw (p.1, p.2) (verdict_is _ _ (judging_fault _ c.loop-forms.reader c.judge_line.new.reader c.loop-forms.forms _ c.loop-forms.invariant c.in_err-forms.ensures))
 
 pub loop-forms-smaller : goal.loop-forms-smaller
-loop-forms-smaller c = next_shorter c.loop-forms.reader c.judge-line.new.reader _ c.in-ok-forms.ensures.1 c.if-not-next-line.ensures.1.0
+loop-forms-smaller c = next_shorter c.loop-forms.reader c.judge_line.new.reader _ c.in_ok-forms.ensures.1 c.if-not-next_line.ensures.1.0
 
 pub loop-forms-preserved : goal.loop-forms-preserved
-loop-forms-preserved c = judging_more _ c.loop-forms.reader c.judge-line.new.reader c.next-line.new.self _ _ c.loop-forms.invariant c.in-ok-forms.ensures c.if-not-next-line.ensures.1
+loop-forms-preserved c = judging_more _ c.loop-forms.reader c.judge_line.new.reader c.next_line.new.self _ _ c.loop-forms.invariant c.in_ok-forms.ensures c.if-not-next_line.ensures.1
 
 pub returns-then-forms : goal.returns-then-forms
 returns-then-forms c =
     verdict_is _ _ (ap (λ b. accepted (read_lines (c.loop-forms.reader.scan.line + 1) b [])) (sym c.if-forms.true)
-    ∙ judging_last _ c.loop-forms.reader c.judge-line.new.reader _ _ c.loop-forms.invariant c.in-ok-forms.ensures c.if-not-next-line.ensures.1.0)
+    ∙ judging_last _ c.loop-forms.reader c.judge_line.new.reader _ _ c.loop-forms.invariant c.in_ok-forms.ensures c.if-not-next_line.ensures.1.0)
 
 pub returns-else-forms : goal.returns-else-forms
 returns-else-forms c =
     verdict_is _ _ (ap (λ b. accepted (read_lines (c.loop-forms.reader.scan.line + 1) b [])) (sym c.if-forms.false)
-    ∙ judging_last _ c.loop-forms.reader c.judge-line.new.reader _ _ c.loop-forms.invariant c.in-ok-forms.ensures c.if-not-next-line.ensures.1.0)
+    ∙ judging_last _ c.loop-forms.reader c.judge_line.new.reader _ _ c.loop-forms.invariant c.in_ok-forms.ensures c.if-not-next_line.ensures.1.0)

@@ -1,4 +1,4 @@
-use Rattle.std.proofs.Common.{◌≡◌, get_or, take, pos, sym, refl, ap, ◌∙◌, arith}
+use Rattle.std.proofs.Common.{get_or, take, pos, sym, refl, ap, ◌∙◌}
 use Rattle.std.proofs.Output.{writes_in_calls_nil, has_written_append, has_written_of_eq}
 use Rattle.std.proofs.lemmas.List.{take_more, take_all}
 use Rattle.market.specs.declared.names.Leg.{Leg}
@@ -17,7 +17,7 @@ loop-leg-preserved g c =
     let i = c.loop-leg.leg-index in
     let d : Leg = record { side = Buy; ratio = pos 0 } in
     has_written_of_eq g.W.Write.write_str_gives _ _ _ _ (legs_more (take i ls) (get_or ls i d) ∙ ap legs_text (sym (take_more ls i d c.loop-leg-test.true)))
-    (has_written_append g.W.Write.write_str_gives _ _ _ _ _ x (c.in-ok-write.ensures.shows x.plain refl))
+    (has_written_append g.W.Write.write_str_gives _ _ _ _ _ x (c.in_ok-write.ensures.writes x.plain refl))
 
 pub returns-clause-writes : goal.returns-clause-writes
 returns-clause-writes g c = λ p e. has_written_of_eq g.W.Write.write_str_gives _ _ _ _ (ap legs_text (take_all _ _ c.loop-leg-test.false)) (c.loop-leg.invariant p)
