@@ -93,7 +93,7 @@ impl LegsMarket {
 impl Depth for LegsMarket {
     ghost entries = { λ m. listed (legs_held m) };
 
-    ghost limits = { first_of (Prim.search rules, Prim.grind (arith, Self.row.coded.inj)) };
+    ghost limits = { Prim.search rules };
 
     fn count(&self) -> usize {
         IMPLIED_ORDERS

@@ -70,7 +70,7 @@ impl AwayBoard {
 impl Depth for AwayBoard {
     ghost entries = { λ b. board_held b };
 
-    ghost limits = { first_of (Prim.search rules, Prim.grind (arith, Self.row.coded.inj)) };
+    ghost limits = { Prim.search rules };
 
     fn count(&self) -> usize {
         self.listed()
