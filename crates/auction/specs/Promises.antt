@@ -91,7 +91,7 @@ facilitator_share o ls = max (min (left_at o ls (gain_of o)) (reserved_of o)) (l
 
 -- PROPORTIONS AT THE LAST PRICE
 
--- v is the gain of the last price: the worst stated price of a filled line, the contra not counted
+-- v is the gain of the last price: of the lines that receive contracts, which the contra is not, the worst price stated
 pub record LastPrice (o : Order) (ls : List Line) (fs : List Fill) (v : ℤ) : Type 0 where
   pub reached : (k : Line) × Stands ls k × (1 ≤ received k.party fs) × (stated_gain o k ≡ v)
   pub worst : (k : Line) → Stands ls k → 1 ≤ received k.party fs → v ≤ℤ stated_gain o k
@@ -100,7 +100,8 @@ pub record LastPrice (o : Order) (ls : List Line) (fs : List Fill) (v : ℤ) : T
 abbrev pub reserved_taken : Order → List Line → ℕ
 reserved_taken o ls = cond (is_facilitation o.mechanism) (min (left_at o ls (gain_of o)) (reserved_of o)) 0
 
--- what better levels, customers there and a reserved share as taken leave, at most what the others there want
+-- what is left at a level once better ones, its customers and the facilitator's reserve are served, as far as the others
+-- there want it
 abbrev pub for_others : Order → List Line → ℤ → ℕ
 for_others o ls v = min (others_at o ls v) (left_at o ls v - reserved_taken o ls)
 

@@ -23,8 +23,8 @@ some p [] = false
 some p (l ∷ ls) = p l || some p ls
 
 -- FACILITATION. Above the order's price the order is filled down. At that price customers come first, the contra
--- takes its reserved share of the rest while contracts last, the others share out what remains as far as they go, and
--- the contra takes what they leave.
+-- takes its reserved share of the rest, if there is as much, the others divide what that leaves up to their sizes, and
+-- what they do not want is the contra's.
 
 -- so many percent of the order, rounded up
 abbrev pub reserved : ℕ → ℕ → ℕ
