@@ -16,10 +16,6 @@ most_members = 16
 abbrev pub most_slots : ℕ
 most_slots = 4
 
--- the most lines against an order
-abbrev pub most_lines : ℕ
-most_lines = 128
-
 -- the fewest lines that a blotter has: one for each line and one for the contra
 abbrev pub least_blotter : ℕ
 least_blotter = 129

@@ -12,7 +12,8 @@ use Rattle.filling.specs.Totals.{better, customer_at, other_at, contracts}
 use Rattle.filling.specs.Mechanisms.{at_least, reserved}
 use Rattle.auction.specs.declared.order.Order.{Order}
 use Rattle.auction.specs.declared.line.Line.{Line}
-use Rattle.auction.specs.Limits.{most_members, most_slots, most_lines}
+use Rattle.deal.specs.Answers.{most_lines}
+use Rattle.auction.specs.Limits.{most_members, most_slots}
 use Rattle.auction.specs.Gains.{gain, is_customer, is_pooled}
 
 abbrev pub same_party : Party → Party → Bool

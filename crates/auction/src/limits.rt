@@ -10,6 +10,3 @@ pub const MOST_SLOTS: u8 = 4;
 
 // The fewest lines of a blotter: one for each line against the order, and one for the contra.
 pub const LEAST_BLOTTER: usize = 129;
-
-// The most lines that stand against an order.
-pub const MOST_LINES: usize = 128;

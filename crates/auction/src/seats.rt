@@ -4,8 +4,9 @@ ghost use Rattle.market.specs.Limits.{most_entries};
 ghost use Rattle.auction.specs.Lines.{stands_in_line, lawful};
 ghost use Rattle.auction.specs.Seats.{is_seat, seat_of, free_seat, admitted, seats_after};
 
-use super::limits::{MOST_LINES, MOST_MEMBERS, MOST_SLOTS};
+use super::limits::{MOST_MEMBERS, MOST_SLOTS};
 use super::line::Line;
+use deal::terms::MOST_LINES;
 use market::fill::Party;
 use market::limits::MOST_ENTRIES;
 

@@ -76,7 +76,7 @@ pricing_of-pricing-requires c =
     let o = c.args.order.now in
     let ls = c.args.lines.now in
     let n = ap length c.requires.counted ∙ length-map ls (interest_of o) in
-    let f = leb-true (length ls) 128 (and_parts (leb (length ls) 128) (stands_in_line ls) c.requires.stand).0 in
+    let f = few_lines ls c.requires.stand in
     record { few = omega (arith, n, f); priced = subst (AllByRecursion Priced) (sym c.requires.counted) (all_priced o ls) }
 
 pub write_fills-requires : goal.write_fills-requires
