@@ -8,3 +8,4 @@ pub mod fill;
 pub mod limits;
 pub mod names;
 pub mod refusal;
+pub mod resting;

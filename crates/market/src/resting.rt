@@ -1,0 +1,12 @@
+// Orders as a caller hands them in to rest.
+use super::names::{Class, Side};
+
+// The number that the order is to rest under, and its fields, within their limits or not.
+#[derive(Clone, Copy)]
+pub struct Resting {
+    pub number: i64,
+    pub side: Side,
+    pub price: i64,
+    pub size: i64,
+    pub class: Class,
+}
