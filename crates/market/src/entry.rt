@@ -7,7 +7,7 @@ use super::names::{Class, Side};
 pub mod ops;
 
 // Interest at a price, in cents, for a number of contracts.
-#[derive(Clone, Copy)]
+#[derive(Clone, Copy, PartialEq, Eq)]
 pub struct Entry {
     pub side: Side,
     pub price: i32,

@@ -6,5 +6,5 @@ ghost use Rattle.market.specs.Fields.{in_range};
 pub fn in_range(value: i64, low: i64, high: i64) -> bool
     ensures { result ≡ in_range low high value }
 {
-    low <= value && value <= high
+    (low..=high).contains(&value)
 }

@@ -9,7 +9,7 @@ pub enum Party {
 }
 
 // So many contracts of a party, at a price in cents.
-#[derive(Clone, Copy)]
+#[derive(Clone, Copy, PartialEq, Eq)]
 pub struct Fill {
     pub party: Party,
     pub price: i32,

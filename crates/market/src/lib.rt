@@ -6,6 +6,7 @@ pub mod entry;
 pub mod fields;
 pub mod fill;
 pub mod limits;
+pub mod lists;
 pub mod names;
 pub mod refusal;
 pub mod resting;

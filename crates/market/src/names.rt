@@ -18,7 +18,7 @@ pub enum Edge {
 }
 
 // A leg of a net: how often it is bought or sold in it.
-#[derive(Clone, Copy)]
+#[derive(Clone, Copy, PartialEq, Eq)]
 pub struct Leg {
     pub side: Side,
     pub ratio: i64,
@@ -72,9 +72,7 @@ impl fmt::Display for Leg {
     ghost output = { λ l. Some (leg_text l) };
 
     fn fmt<W: fmt::Write>(&self, f: &mut fmt::Formatter<W>) -> fmt::Result {
-        let side = self.side;
-        let ratio = self.ratio;
-        write!(f, "({side} {ratio})")
+        write!(f, "({} {})", self.side, self.ratio)
     }
 }
 

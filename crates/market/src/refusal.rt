@@ -2,42 +2,42 @@
 ghost use Rattle.std.specs.Prelude.{◌≡◌};
 ghost use Rattle.market.specs.Refusals.{refusal_number};
 
-#[derive(Clone, Copy)]
+#[derive(Clone, Copy, PartialEq, Eq)]
 pub enum Refusal {
     // The moment lies before the last one.
-    MomentPassed,
+    MomentPassed = 1,
     // An auction is open.
-    AuctionOpen,
+    AuctionOpen = 2,
     // No auction is open, or the ticket is another's.
-    NotRunning,
+    NotRunning = 3,
     // The exposure is over.
-    ExposureOver,
+    ExposureOver = 4,
     // The exposure still runs.
-    ExposureRuns,
+    ExposureRuns = 5,
     // A field is outside its limits, or not for this kind of market.
-    OutOfLimits,
+    OutOfLimits = 6,
     // No more auctions can be started.
-    TooManyAuctions,
+    TooManyAuctions = 7,
     // The order is below the least size of its mechanism.
-    TooSmall,
+    TooSmall = 8,
     // The pool lists more entries than an auction can take in.
-    PoolTooDeep,
+    PoolTooDeep = 9,
     // The order's price fails against what stands elsewhere.
-    PriceOutside,
+    PriceOutside = 10,
     // The response is worse than the order.
-    WorseThanOrder,
+    WorseThanOrder = 11,
     // A response stands in the place.
-    PlaceTaken,
+    PlaceTaken = 12,
     // No response stands in the place.
-    PlaceEmpty,
+    PlaceEmpty = 13,
     // The blotter has too few lines.
-    BlotterShort,
+    BlotterShort = 14,
     // No entry stands at the place, or that many contracts cannot be taken of it.
-    NotTakable,
+    NotTakable = 15,
     // An order with contracts stands under the number.
-    NumberStands,
+    NumberStands = 16,
     // There is no room for one more.
-    NoSpace,
+    NoSpace = 17,
 }
 
 impl Refusal {
@@ -45,24 +45,6 @@ impl Refusal {
     pub fn number(self) -> u8
         ensures { result ≡ refusal_number self }
     {
-        match self {
-            Refusal::MomentPassed => 1,
-            Refusal::AuctionOpen => 2,
-            Refusal::NotRunning => 3,
-            Refusal::ExposureOver => 4,
-            Refusal::ExposureRuns => 5,
-            Refusal::OutOfLimits => 6,
-            Refusal::TooManyAuctions => 7,
-            Refusal::TooSmall => 8,
-            Refusal::PoolTooDeep => 9,
-            Refusal::PriceOutside => 10,
-            Refusal::WorseThanOrder => 11,
-            Refusal::PlaceTaken => 12,
-            Refusal::PlaceEmpty => 13,
-            Refusal::BlotterShort => 14,
-            Refusal::NotTakable => 15,
-            Refusal::NumberStands => 16,
-            Refusal::NoSpace => 17,
-        }
+        self as u8
     }
 }

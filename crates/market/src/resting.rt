@@ -2,7 +2,7 @@
 use super::names::{Class, Side};
 
 // The number that the order is to rest under, and its fields, within their limits or not.
-#[derive(Clone, Copy)]
+#[derive(Clone, Copy, PartialEq, Eq)]
 pub struct Resting {
     pub number: i64,
     pub side: Side,

@@ -12,8 +12,8 @@ use super::Entry;
 fn entry_ok(price: i64, size: i64) -> bool
     ensures { result ≡ entry_ok price size }
 {
-    in_range(price, LOWEST_PRICE as i64, HIGHEST_PRICE as i64)
-        && in_range(size, 0, MOST_SIZE as i64)
+    in_range(price, i64::from(LOWEST_PRICE), i64::from(HIGHEST_PRICE))
+        && in_range(size, 0, i64::from(MOST_SIZE))
 }
 
 impl Entry {
@@ -24,6 +24,7 @@ impl Entry {
         if !entry_ok(price, size) {
             return Err(Refusal::OutOfLimits);
         }
+        // By hand: `try_from` tests the types' limits, which are wider than these.
         Ok(Entry {
             side,
             price: price as i32,
