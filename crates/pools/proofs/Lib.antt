@@ -1,3 +1,1 @@
-mod Searched
-mod Rested
-mod Ways
+mod Made

@@ -1,5 +1,6 @@
 -- Resting an order in a book.
-use Rattle.std.specs.Prelude.{ℕ, Bool, false, cond, ◌&&◌, ◌||◌, List, [], ◌∷◌, ◌++◌, ℤ, pos, is_ok, Ok, Err, count_by, filter, Result, ◌==◌, nat_lt}
+use Rattle.std.specs.Prelude.{ℕ, Bool, cond, ◌&&◌, [], ◌∷◌, ◌++◌, ℤ, pos, is_ok, Ok, Err, count_by, filter, Result, ◌==◌, nat_lt}
+use Rattle.std.specs.List.{list_any}
 use Rattle.market.specs.declared.names.Kind.{Kind}
 use Rattle.market.specs.declared.names.Kind.TheVariants.{Series, Net}
 use Rattle.market.specs.declared.names.Side.{Side}
@@ -12,11 +13,6 @@ use Rattle.market.specs.Making.{entry_of}
 use Rattle.pools.specs.declared.book.Order.{Order}
 use Rattle.pools.specs.Limits.{most_orders, highest_number}
 use Rattle.pools.specs.Books.{BookHeld}
-
--- a test that holds of some element
-abbrev pub any_of : {X : Type 0} → (X → Bool) → List X → Bool
-any_of p [] = false
-any_of p (x ∷ xs) = p x || any_of p xs
 
 -- an order with contracts
 abbrev pub live : Order → Bool
@@ -43,7 +39,7 @@ order_of n s p z k = record { number = nat_of n; entry = entry_of s p (nat_of z)
 abbrev pub rest_answer : BookHeld → ℤ → ℤ → ℤ → Result (Unit {0}) Refusal
 rest_answer b n p z =
     cond (rest_ok b.kind n p z)
-    (cond (any_of (stands_as (nat_of n)) b.orders) (Err NumberStands) (cond (nat_lt (count_by live b.orders) most_orders) (Ok tt) (Err NoSpace)))
+    (cond (list_any (stands_as (nat_of n)) b.orders) (Err NumberStands) (cond (nat_lt (count_by live b.orders) most_orders) (Ok tt) (Err NoSpace)))
     (Err OutOfLimits)
 
 -- the book after it: without the emptied orders, and with the new one at the end

@@ -6,4 +6,3 @@ pub mod book;
 pub mod empty;
 pub mod pair;
 pub mod sheet;
-mod within;

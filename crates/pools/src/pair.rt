@@ -1,5 +1,5 @@
 // Two depths or pools as one.
-ghost use Rattle.std.specs.Prelude.{◌≡◌, ◌++◌, take, nat_le};
+ghost use Rattle.std.specs.Prelude.{◌++◌, take};
 ghost use Rattle.market.specs.Limits.{most_entries};
 ghost use Rattle.pools.specs.Pairs.{PairTook};
 ghost use Rattle.std.proofs.Common.{arith};
@@ -17,20 +17,6 @@ pub struct Pair<A, B> {
     pub second: B,
 }
 
-// Whether a place is among those that are listed.
-fn is_listed(place: usize) -> bool
-    ensures { result ≡ nat_le place most_entries }
-{
-    place <= MOST_ENTRIES
-}
-
-// Whether a place is in a first list of so many entries.
-fn in_first(place: usize, front: usize) -> bool
-    ensures { result ≡ nat_le place front }
-{
-    place <= front
-}
-
 impl<X: Depth, Y: Depth> Depth for Pair<X, Y> {
     ghost entries = { λ p. take most_entries (X.Depth.entries p.first ++ Y.Depth.entries p.second) };
 
@@ -43,11 +29,11 @@ impl<X: Depth, Y: Depth> Depth for Pair<X, Y> {
     }
 
     fn entry(&self, place: usize) -> Result<Entry, Refusal> {
-        if !is_listed(place) {
+        if place > MOST_ENTRIES {
             return Err(Refusal::NotTakable);
         }
         let front = self.first.count();
-        if in_first(place, front) {
+        if place <= front {
             self.first.entry(place)
         } else {
             self.second.entry(place - front)
@@ -59,11 +45,11 @@ impl<X: Pool, Y: Pool> Pool for Pair<X, Y> {
     ghost took = { PairTook X.Depth.entries X.Pool.took Y.Pool.took };
 
     fn take(&mut self, place: usize, n: u32) -> Result<(), Refusal> {
-        if !is_listed(place) {
+        if place > MOST_ENTRIES {
             return Err(Refusal::NotTakable);
         }
         let front = self.first.count();
-        if in_first(place, front) {
+        if place <= front {
             self.first.take(place, n)
         } else {
             self.second.take(place - front, n)

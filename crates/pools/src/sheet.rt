@@ -10,8 +10,9 @@ use super::book::Book;
 use super::empty::Empty;
 use super::pair::Pair;
 use legs::pool::LegsMarket;
-use market::names::{Class, Edge, Kind, Side};
+use market::names::{Edge, Kind, Side};
 use market::refusal::Refusal;
+use market::resting::Resting;
 use std::alloc::{AllocError, Global};
 
 // A series has a book and an away board. A net has a book and its legs as one pool, the book first, and nothing away.
@@ -50,20 +51,13 @@ impl SheetMarket {
     }
 
     // Rests an order in the book.
-    pub fn rest(
-        &mut self,
-        number: i64,
-        side: Side,
-        price: i64,
-        size: i64,
-        class: Class,
-    ) -> Result<(), Refusal>
-        ensures answer { result ≡ rest_in (market_held self.old) number price size }
-        ensures after { market_held self.new ≡ after_rest_in (market_held self.old) number side price size class }
+    pub fn rest(&mut self, new: Resting) -> Result<(), Refusal>
+        ensures answer { result ≡ rest_in (market_held self.old) new.number new.price new.size }
+        ensures after { market_held self.new ≡ after_rest_in (market_held self.old) new.number new.side new.price new.size new.class }
     {
         match self {
-            SheetMarket::Series { pool, .. } => pool.rest(number, side, price, size, class),
-            SheetMarket::Net { pool, .. } => pool.first.rest(number, side, price, size, class),
+            SheetMarket::Series { pool, .. } => pool.rest(new),
+            SheetMarket::Net { pool, .. } => pool.first.rest(new),
         }
     }
 

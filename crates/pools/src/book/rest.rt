@@ -1,15 +1,17 @@
 // Resting an order.
-ghost use Rattle.std.specs.Prelude.{◌≡◌, true, vec_capacity, count_by, filter};
+ghost use Rattle.std.specs.Prelude.{◌≡◌, true, false, IfOk, IfErr, count_by};
+ghost use Rattle.std.specs.List.{list_any};
 ghost use Rattle.pools.specs.Books.{book_held};
-ghost use Rattle.pools.specs.Resting.{any_of, live, stands_as, lowest_of, rest_ok, order_of, rest_answer, after_rest};
+ghost use Rattle.pools.specs.Resting.{live, stands_as, lowest_of, rest_ok, order_of, rest_answer, after_rest};
 
 use super::ops::MOST_ORDERS;
 use super::{Book, Order};
-use crate::within::within;
+use market::entry::Entry;
 use market::fields::in_range;
 use market::limits::{HIGHEST_PRICE, LOWEST_PRICE, MOST_SIZE};
-use market::names::{Class, Kind, Side};
+use market::names::Kind;
 use market::refusal::Refusal;
+use market::resting::Resting;
 
 // The highest number of an order.
 pub const HIGHEST_NUMBER: i64 = 65_535;
@@ -20,108 +22,79 @@ fn lowest(kind: Kind) -> i64
 {
     match kind {
         Kind::Series => 1,
-        Kind::Net => LOWEST_PRICE as i64,
+        Kind::Net => i64::from(LOWEST_PRICE),
     }
 }
 
 // Whether the fields of an order are within their limits.
-fn rest_ok(kind: Kind, number: i64, price: i64, size: i64) -> bool
-    ensures { result ≡ rest_ok kind number price size }
+fn rest_ok(kind: Kind, new: Resting) -> bool
+    ensures { result ≡ rest_ok kind new.number new.price new.size }
 {
-    in_range(number, 1, HIGHEST_NUMBER)
-        && in_range(price, lowest(kind), HIGHEST_PRICE as i64)
-        && in_range(size, 1, MOST_SIZE as i64)
+    in_range(new.number, 1, HIGHEST_NUMBER)
+        && in_range(new.price, lowest(kind), i64::from(HIGHEST_PRICE))
+        && in_range(new.size, 1, i64::from(MOST_SIZE))
 }
 
-// The order of fields within their limits.
-fn order_of(kind: Kind, number: i64, side: Side, price: i64, size: i64, class: Class) -> Order
-    requires { rest_ok kind number price size ≡ true }
-    ensures { result ≡ order_of number side price size class }
-{
-    Order {
-        number: number as u16,
-        entry: within(side, price, size, class),
-    }
-}
-
-fn is_live(order: &Order) -> bool
-    ensures { result ≡ live order.now }
-{
-    order.entry.size > 0
-}
-
-// Whether an order with contracts stands under a number.
-fn stands_as(order: &Order, number: u16) -> bool
-    ensures { result ≡ stands_as number order.now }
-{
-    order.number == number && is_live(order)
-}
-
-// Whether any does.
-fn stands(orders: &[Order], number: u16) -> bool
-    ensures { result ≡ any_of (stands_as number) orders.now }
-{
-    for order in orders {
-        if stands_as(order, number) {
-            return true;
+impl Order {
+    // The order of these fields; refused where one is outside its limits for the kind of market.
+    fn new(kind: Kind, new: Resting) -> Result<Order, Refusal>
+        ensures ok { IfOk result (λ o. (rest_ok kind new.number new.price new.size ≡ true) × (o ≡ order_of new.number new.side new.price new.size new.class)) }
+        ensures err { IfErr result (λ e. (rest_ok kind new.number new.price new.size ≡ false) × (e ≡ Refusal.OutOfLimits)) }
+    {
+        if !rest_ok(kind, new) {
+            return Err(Refusal::OutOfLimits);
         }
+        let entry = Entry::new(new.side, new.price, new.size, new.class).unwrap();
+        Ok(Order {
+            number: new.number as u16,
+            entry,
+        })
     }
-    false
-}
 
-// How many orders have contracts.
-fn live_count(orders: &[Order]) -> usize
-    ensures { result ≡ count_by live orders.now }
-{
-    let mut n: usize = 0;
-    for order in orders {
-        if is_live(order) {
-            n += 1;
-        }
+    // Whether it has contracts.
+    fn is_live(&self) -> bool
+        ensures { result ≡ live self.now }
+    {
+        self.entry.size > 0
     }
-    n
-}
 
-// Drops the orders without contracts.
-fn compact(orders: &mut Vec<Order>)
-    ensures items { orders.new.items ≡ filter live orders.old.items }
-    ensures capacity { vec_capacity orders.new ≡ vec_capacity orders.old }
-{
-    let mut end: usize = 0;
-    for i in 0..orders.len() {
-        if is_live(&orders[i]) {
-            orders.swap(end, i);
-            end += 1;
-        }
+    // Whether it has contracts and stands under a number.
+    fn stands_as(&self, number: u16) -> bool
+        ensures { result ≡ stands_as number self.now }
+    {
+        self.number == number && self.is_live()
     }
-    orders.truncate(end);
 }
 
 impl Book {
+    // Whether an order with contracts stands under a number.
+    fn stands(&self, number: u16) -> bool
+        ensures { result ≡ list_any (stands_as number) (book_held self.now).orders }
+    {
+        self.orders.iter().any(|o| o.stands_as(number))
+    }
+
+    // How many orders have contracts.
+    fn live_count(&self) -> usize
+        ensures { result ≡ count_by live (book_held self.now).orders }
+    {
+        self.orders.iter().filter(|o| o.is_live()).count()
+    }
+
     // Drops the emptied orders, and appends one. Refused where a field is outside its limits, an order with contracts
     // stands under the number, or as many as have room stand.
-    pub fn rest(
-        &mut self,
-        number: i64,
-        side: Side,
-        price: i64,
-        size: i64,
-        class: Class,
-    ) -> Result<(), Refusal>
-        ensures answer { result ≡ rest_answer (book_held self.old) number price size }
-        ensures after { book_held self.new ≡ after_rest (book_held self.old) number side price size class }
+    pub fn rest(&mut self, new: Resting) -> Result<(), Refusal>
+        ensures answer { result ≡ rest_answer (book_held self.old) new.number new.price new.size }
+        ensures after { book_held self.new ≡ after_rest (book_held self.old) new.number new.side new.price new.size new.class }
     {
-        if !rest_ok(self.kind, number, price, size) {
-            return Err(Refusal::OutOfLimits);
-        }
-        let order = order_of(self.kind, number, side, price, size, class);
-        if stands(&self.orders, order.number) {
+        let order = Order::new(self.kind, new)?;
+        if self.stands(order.number) {
             return Err(Refusal::NumberStands);
         }
-        if live_count(&self.orders) >= MOST_ORDERS {
+        if self.live_count() >= MOST_ORDERS {
             return Err(Refusal::NoSpace);
         }
-        compact(&mut self.orders);
+        self.orders.retain(|o| o.is_live());
         self.orders.push_reserved(order);
         Ok(())
     }

@@ -1,34 +1,29 @@
-use Rattle.std.proofs.Common.{◌-◌, ◌<◌, List, length, set, sym, refl, ap, ◌∙◌, arith}
-use Rattle.market.proofs.Placing.{take_out, take_refused, take_done, change_set, up_to_bounds}
+use Rattle.std.proofs.Common.{◌≡◌, ◌≤◌, ◌-◌, true, List, refl, sym, ap, ◌∙◌, set, arith, rules}
+use Rattle.market.specs.declared.entry.Entry.{Entry}
+use Rattle.market.specs.Lists.{up_to, lowered}
+use Rattle.market.proofs.Entries.{entry_same}
+use Rattle.market.proofs.Placing.{change_set, place_index, entry_there, take_done}
 use Rattle.pools.specs.declared.book.Order.{Order}
 use Rattle.pools.specs.Books.{BookHeld, order_entry, lowered_order}
 use Rattle.pools.proofs.book.ops.BookPool.take.Goals as goal
 
-pub returns-then-not-in_list : goal.returns-then-not-in_list
-returns-then-not-in_list c =
-    let b = c.args.self.now in
-    let t = take_out order_entry b.orders.items _ (c.listed.ensures ∙ b.orders.ok.0) c.args.place c.args.n (sym c.in_list.ensures ∙ c.if-not-in_list.true) in
-    record { answer = t.0; list = t.1; pool = refl }
+pub overflow_sub-index_mut : goal.overflow_sub-index_mut
+overflow_sub-index_mut c =
+    let there = ap (λ e. e.size) (entry_there order_entry c.args.self.now.orders.items c.args.place c.in_ok-entry.entry c.in_ok-entry.ensures c.index_mut.result.now c.index_mut.ensures.value) in
+    let able : c.args.n ≤ c.in_ok-entry.entry.size = search rules in
+    omega arith
 
-pub returns-then-not-can_take : goal.returns-then-not-can_take
-returns-then-not-can_take c =
-    let b = c.args.self.now in
-    let t = take_refused order_entry b.orders.items _ (c.listed.ensures ∙ b.orders.ok.0) c.args.place c.index-order.result.now (sym c.in_list.ensures ∙ c.if-not-in_list.false) c.index-order.ensures c.args.n (sym c.can_take.ensures ∙ c.if-not-can_take.true) in
-    record { answer = t.0; list = t.1; pool = refl }
+pub returns-clause-list : goal.returns-clause-list
+returns-clause-list c =
+    let x = c.index_mut.result.now in
+    let able : up_to c.in_ok-entry.entry.size c.args.n ≡ true = search rules in
+    take_done order_entry c.args.self.now.orders.items c.args.place c.in_ok-entry.entry c.in_ok-entry.ensures x c.index_mut.ensures.value c.args.n _ able (entry_same _ (lowered c.args.n x.entry) refl refl refl refl)
 
-pub lower-lowered-requires : goal.lower-lowered-requires
-lower-lowered-requires c = (up_to_bounds _ c.args.n (sym c.can_take.ensures ∙ c.if-not-can_take.false)).1
-
-pub returns : goal.returns
-returns c =
-    let b = c.args.self.now in
-    let os = b.orders.items in
-    let x = c.index-order.result.now in
-    let i = c.args.place - 1 in
-    let inside = sym c.in_list.ensures ∙ c.if-not-in_list.false in
-    let lo = up_to_bounds _ c.args.place inside in
-    let lt : i < length os = omega (arith, lo.0, lo.1, c.listed.ensures, b.orders.ok.0) in
-    let e = c.lower-lowered.ensures in
-    let t = take_done order_entry os _ (c.listed.ensures ∙ b.orders.ok.0) c.args.place x inside c.index-order.ensures c.args.n c.lower-lowered.result (sym c.can_take.ensures ∙ c.if-not-can_take.false) (ap order_entry e) in
-    let held : List Order → BookHeld = λ xs. record { kind = b.kind; orders = xs } in
-    record { answer = t.0; list = t.1; pool = ap held (ap (set os i) e ∙ sym (change_set (lowered_order c.args.n) os i x lt c.index-order.ensures)) }
+pub returns-clause-pool : goal.returns-clause-pool
+returns-clause-pool c =
+    let x = c.index_mut.result.now in
+    let os = c.args.self.now.orders.items in
+    let i = place_index order_entry os c.args.place c.in_ok-entry.entry c.in_ok-entry.ensures in
+    let held : List Order → BookHeld = λ xs. record { kind = c.args.self.now.kind; orders = xs } in
+    let order : Entry → Order = λ e. record { number = x.number; entry = e } in
+    ap held (ap (λ e. set os (c.args.place - 1) (order e)) (entry_same _ (lowered c.args.n x.entry) refl refl refl refl) ∙ sym (change_set (lowered_order c.args.n) os (c.args.place - 1) x i c.index_mut.ensures.value))
