@@ -1,8 +1,8 @@
 -- Fields within their limits: what a check of them gives.
-use Rattle.std.proofs.Common.{◌≡◌, ℕ, ◌^◌, ◌<◌, ◌≤◌, min, Bool, true, false, cond, T, leb, ℤ, pos, negsuc, nat_abs, ◌≤ℤ◌, sym, refl, ap, ◌∙◌, subst, arith, w32, w64, Fits, SFits, to_z, of_z}
+use Rattle.std.proofs.Common.{rules, ◌≡◌, ℕ, ◌^◌, ◌<◌, ◌≤◌, min, true, T, leb, ℤ, pos, negsuc, nat_abs, ◌≤ℤ◌, sym, refl, ap, ◌∙◌, subst, arith, w32, w64, Fits, SFits, to_z, of_z}
 use lib.Signed.{le_z, non_neg}
 use Rattle.std.proofs.lemmas.Int.{to_z-of_z}
-use Rattle.std.proofs.lemmas.Bool.{and_parts, and_from, leb-true, false≢true}
+use Rattle.std.proofs.lemmas.Bool.{and_parts, leb-true}
 use Rattle.market.specs.declared.entry.Entry.{Entry}
 use Rattle.market.specs.declared.names.Side.{Side}
 use Rattle.market.specs.declared.names.Class.{Class}
@@ -20,7 +20,7 @@ pub record Narrow (l h : ℕ) (z : ℤ) : Type 0 where
 
 pub narrow : (l h : ℕ) (z : ℤ) → in_range (pos l) (pos h) z ≡ true → Narrow l h z
 narrow l h (pos n) ok = let b = and_parts (leb l n) (leb n h) ok in record { low = leb-true l n b.0; high = leb-true n h b.1; abs = refl; whole = tt }
-narrow l h (negsuc n) ok = absurd (false≢true ok)
+narrow l h (negsuc n) ok = cc
 
 -- as it is cast: through its bits
 module _ (l h : ℕ) (z : ℤ) (fits : SFits w64 z) (ok : in_range (pos l) (pos h) z ≡ true) where
@@ -34,18 +34,14 @@ module _ (l h : ℕ) (z : ℤ) (fits : SFits w64 z) (ok : in_range (pos l) (pos 
       let k = (narrow l h z ok).high in
       (subst P (sym (to_z-of_z w64 z fits)) (narrow l h z ok).whole, record { fits = omega arith })
 
-holds : (b : Bool) → T b → b ≡ true
-holds true h = refl
-holds false h = absurd h
-
 pub in_range_holds : (low high z : ℤ) → low ≤ℤ z → z ≤ℤ high → in_range low high z ≡ true
-in_range_holds low high z a b = and_from (le_z low z) (le_z z high) (holds (le_z low z) a.le) (holds (le_z z high) b.le)
+in_range_holds low high z a b = search rules
 
 -- a price within the limits is not cut
 pub cut_none : (z : ℤ) → in_range lowest_price highest_price z ≡ true → cut_price z ≡ z
 cut_none z ok =
     let b = and_parts (le_z lowest_price z) (le_z z highest_price) ok in
-    ap (λ t. cond t (cond (le_z z highest_price) z highest_price) lowest_price) b.0 ∙ ap (λ t. cond t z highest_price) b.1
+    rw (b.0, b.1) refl
 
 -- an entry is that of its fields
 pub entry_of_fields : (e : Entry) (s : Side) (p : ℤ) (n : ℕ) (k : Class) → in_range lowest_price highest_price p ≡ true → n ≤ most_size → e.side ≡ s → e.price ≡ p → e.size ≡ n → e.class ≡ k → e ≡ entry_of s p n k

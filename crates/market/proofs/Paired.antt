@@ -1,8 +1,6 @@
 -- The places of two lists as one, cut after n entries.
-use Rattle.std.proofs.Common.{◌≡◌, ℕ, zero, suc, ◌+◌, ◌-◌, ◌<◌, ◌≤◌, Bool, true, false, cond, List, [], ◌∷◌, ◌++◌, length, take, None, Ok, Err, sym, refl, ap, ◌∙◌, inr, arith}
-use Rattle.std.proofs.lemmas.Bool.{true≢false}
+use Rattle.std.proofs.Common.{◌≡◌, ℕ, zero, suc, ◌+◌, ◌-◌, ◌<◌, ◌≤◌, Bool, true, false, cond, List, [], ◌∷◌, ◌++◌, length, take, None, Err, sym, refl, ap, ◌∙◌, inr, arith}
 use Rattle.std.specs.List.{slice_get}
-use Rattle.std.specs.Option.{ok_or}
 use Rattle.std.proofs.lemmas.List.{length-take}
 use Rattle.market.specs.declared.entry.Entry.{Entry}
 use Rattle.market.specs.declared.refusal.Refusal.TheVariants.{NotTakable}
@@ -62,29 +60,27 @@ module _ (n : ℕ) (xs ys : List Entry) where
   past place h = let e = length-take n (xs ++ ys) in placed_out both place (inr (omega arith))
 
   pub entry_past : (place : ℕ) → n < place → Err NotTakable ≡ entry_at both place
-  entry_past place h = sym (ap (λ o. ok_or o NotTakable) (past place h))
+  entry_past place h = rw (past place h) refl
 
   pub entry_left : (place k : ℕ) → k ≡ length xs → place ≤ n → place ≤ k → entry_at xs place ≡ entry_at both place
-  entry_left place k e h l = sym (ap (λ o. ok_or o NotTakable) (placed_left place h (omega arith)))
+  entry_left place k e h l = rw (placed_left place h (omega arith)) refl
 
   pub take_past : (place m : ℕ) → n < place → (Err NotTakable ≡ take_answer both place m) × (both ≡ after_take both place m)
   take_past place m h =
-      let e : takable (placed both place) m ≡ false = ap (λ o. takable o m) (past place h) in
-      (sym (ap (λ t. cond t (Ok tt) (Err NotTakable)) e), sym (ap (λ t. cond t (change_at (lowered m) both (place - 1)) both) e))
+      let e = past place h in
+      (rw e refl, rw e refl)
 
   after_left : (place m : ℕ) (t : Bool) → place ≤ length xs → takable (placed xs place) m ≡ t → take n (cond t (change_at (lowered m) xs (place - 1)) xs ++ ys) ≡ cond t (change_at (lowered m) both (place - 1)) both
   after_left place m false h e = refl
-  after_left zero m true h e = absurd (true≢false (sym e))
+  after_left zero m true h e = cc
   after_left (suc i) m true h e =
       let j : suc i - 1 < length xs = omega arith in
       sym (change_take (lowered m) n (xs ++ ys) (suc i - 1) ∙ ap (take n) (change_left (lowered m) xs ys (suc i - 1) j))
 
   pub take_left : (place m k : ℕ) → k ≡ length xs → place ≤ n → place ≤ k → (take_answer xs place m ≡ take_answer both place m) × (take n (after_take xs place m ++ ys) ≡ after_take both place m)
   take_left place m k e h l =
-      let same : takable (placed both place) m ≡ takable (placed xs place) m = ap (λ o. takable o m) (placed_left place h (omega arith)) in (
-        sym (ap (λ t. cond t (Ok tt) (Err NotTakable)) same),
-        after_left place m (takable (placed xs place) m) (omega arith) refl ∙ sym (ap (λ t. cond t (change_at (lowered m) both (place - 1)) both) same),
-      )
+      let same = placed_left place h (omega arith) in
+      (rw same refl, rw same (after_left place m (takable (placed xs place) m) (omega arith) refl))
 
   module _ (place k : ℕ) (e : k ≡ length xs) (h : place ≤ n) (l : k < place) where
     index : length xs + suc (place - k - 1) ≡ place
@@ -100,7 +96,7 @@ module _ (n : ℕ) (xs ys : List Entry) where
         ∙ ap (placed ys) rest
 
     pub entry_right : entry_at ys (place - k) ≡ entry_at both place
-    entry_right = sym (ap (λ o. ok_or o NotTakable) right)
+    entry_right = rw right refl
 
     after_right : (m : ℕ) (t : Bool) → take n (xs ++ cond t (change_at (lowered m) ys (place - k - 1)) ys) ≡ cond t (change_at (lowered m) both (place - 1)) both
     after_right m false = refl
@@ -109,8 +105,4 @@ module _ (n : ℕ) (xs ys : List Entry) where
         sym (change_take (lowered m) n (xs ++ ys) (place - 1) ∙ ap (take n) (sym (ap (change_at (lowered m) (xs ++ ys)) j) ∙ change_right (lowered m) xs ys (place - k - 1)))
 
     pub take_right : (m : ℕ) → (take_answer ys (place - k) m ≡ take_answer both place m) × (take n (xs ++ after_take ys (place - k) m) ≡ after_take both place m)
-    take_right m =
-        let same : takable (placed both place) m ≡ takable (placed ys (place - k)) m = ap (λ o. takable o m) right in (
-          sym (ap (λ t. cond t (Ok tt) (Err NotTakable)) same),
-          after_right m (takable (placed ys (place - k)) m) ∙ sym (ap (λ t. cond t (change_at (lowered m) both (place - 1)) both) same),
-        )
+    take_right m = (rw right refl, rw right (after_right m (takable (placed ys (place - k)) m)))

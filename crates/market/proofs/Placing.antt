@@ -1,12 +1,12 @@
 -- Places of a list, and what a take does there.
-use Rattle.std.proofs.Common.{◌≡◌, ℕ, zero, suc, ◌-◌, ◌<◌, ◌≤◌, Bool, true, false, ◌&&◌, leb, ◌⊎◌, List, [], ◌∷◌, map, length, get_or, set, Option, Some, None, Ok, Err, sym, refl, ap, ◌∙◌, inl, inr, ⊎_elim, sub-one, arith}
+use Rattle.std.proofs.Common.{◌≡◌, ℕ, zero, suc, ◌-◌, ◌<◌, ◌≤◌, true, leb, ◌⊎◌, List, [], ◌∷◌, map, length, get_or, set, Option, Some, None, Ok, sym, refl, ap, ◌∙◌, ⊎_elim, sub-one, arith}
 use Rattle.std.specs.Option.{ok_or, option_map}
 use Rattle.std.proofs.lemmas.List.{length-map, get_or-map, map-set}
 use Rattle.std.proofs.lemmas.Option.{slice_get-get_or, slice_get_past, slice_get-map, slice_get_within}
-use Rattle.std.proofs.lemmas.Bool.{leb-true, leb-false, and_parts, true≢false}
+use Rattle.std.proofs.lemmas.Bool.{leb-true, and_parts}
 use Rattle.market.specs.declared.entry.Entry.{Entry}
 use Rattle.market.specs.declared.refusal.Refusal.TheVariants.{NotTakable}
-use Rattle.market.specs.Lists.{placed, entry_at, up_to, takable, take_answer, after_take, lowered, change_at}
+use Rattle.market.specs.Lists.{placed, entry_at, up_to, takable, after_take, lowered, change_at}
 
 pub placed_out : {X : Type 0} (xs : List X) (place : ℕ) → (place ≡ 0) ⊎ (length xs < place) → placed xs place ≡ None
 placed_out xs zero h = refl
@@ -33,24 +33,9 @@ change_set f [] i x h r = refl
 change_set f (y ∷ xs) zero x h r = ap (λ z. f z ∷ xs) (sym r)
 change_set f (y ∷ xs) (suc i) x h r = ap (λ ys. y ∷ ys) (change_set f xs i x (omega arith) r)
 
--- a take where nothing can be taken, by what stands there
-pub take_none : (es : List Entry) (place n : ℕ) → takable (placed es place) n ≡ false → (take_answer es place n ≡ Err NotTakable) × (after_take es place n ≡ es)
-take_none es place n h = (rw h refl, rw h refl)
-
-pub take_some : (es : List Entry) (place n : ℕ) → takable (placed es place) n ≡ true → (take_answer es place n ≡ Ok tt) × (after_take es place n ≡ change_at (lowered n) es (place - 1))
-take_some es place n h = (rw h refl, rw h refl)
-
--- no place, so nothing to take
-pub untakable_out : (es : List Entry) (place n : ℕ) → (place ≡ 0) ⊎ (length es < place) → takable (placed es place) n ≡ false
-untakable_out es place n h = rw (placed_out es place h) refl
-
-not_up_to : (most n : ℕ) → up_to most n ≡ false → (n ≡ 0) ⊎ (most < n)
-not_up_to most n e = go (leb 1 n) (leb n most) refl refl e
-  where
-    go : (a b : Bool) → leb 1 n ≡ a → leb n most ≡ b → a && b ≡ false → (n ≡ 0) ⊎ (most < n)
-    go true true p q e = absurd (true≢false e)
-    go true false p q e = inr (leb-false n most q)
-    go false b p q e = inl (let k = leb-false 1 n p in omega arith)
+-- a take of what can be taken
+take_some : (es : List Entry) (place n : ℕ) → takable (placed es place) n ≡ true → after_take es place n ≡ change_at (lowered n) es (place - 1)
+take_some es place n h = rw h refl
 
 pub up_to_bounds : (most n : ℕ) → up_to most n ≡ true → (0 < n) × (n ≤ most)
 up_to_bounds most n e = let b = and_parts (leb 1 n) (leb n most) e in (leb-true 1 n b.0, leb-true n most b.1)
@@ -80,4 +65,4 @@ module _ {X : Type 0} (f : X → Entry) (xs : List X) (place : ℕ) (e : Entry) 
         let i : place - 1 < length (map f xs) = let n = length-map xs f in let j = place_index in omega arith in
         let here : f x ≡ get_or (map f xs) (place - 1) (f x) = sym (get_or-map f xs (place - 1) x (f x) place_index ∙ ap f (sym r)) in
         let t = take_some (map f xs) place m (ap (λ o. takable o m) standing ∙ h) in
-        map-set f xs (place - 1) y ∙ ap (set (map f xs) (place - 1)) low ∙ sym (change_set (lowered m) (map f xs) (place - 1) (f x) i here) ∙ sym t.1
+        map-set f xs (place - 1) y ∙ ap (set (map f xs) (place - 1)) low ∙ sym (change_set (lowered m) (map f xs) (place - 1) (f x) i here) ∙ sym t

@@ -16,6 +16,7 @@ use market::resting::Resting;
 use std::alloc::{AllocError, Global};
 
 // A series has a book and an away board. A net has a book and its legs as one pool, the book first, and nothing away.
+// By hand: that each book is of its kind stands in `series` and `net`; a type for it would change `Book::new`.
 #[derive(Drop)]
 pub enum SheetMarket {
     Series {
@@ -61,7 +62,8 @@ impl SheetMarket {
         }
     }
 
-    // Replaces one side of a leg; refused in a series.
+    // Replaces one side of a leg; refused in a series. The sizes are borrowed here and owned by a sheet's form, so no one
+    // struct holds both.
     pub fn quote(&mut self, leg: i64, edge: Edge, price: i64, sizes: &[i64]) -> Result<(), Refusal>
         ensures answer { result ≡ quote_in (market_held self.old) leg price sizes.now }
         ensures after { market_held self.new ≡ after_quote_in (market_held self.old) leg edge price sizes.now }

@@ -1,7 +1,7 @@
 // The away board, the empty depth, and the market of a series.
-use crate::told::{refused, shows, told};
+use crate::told::{buy, shows, told};
 use market::depth::Depth;
-use market::names::{Class, Edge, Side};
+use market::names::{Edge, Side};
 use pools::board::AwayBoard;
 use pools::empty::Empty;
 use pools::sheet::SheetMarket;
@@ -19,14 +19,14 @@ fn full(rt: HostRuntime) -> Result<(), Fail> {
     assert_eq!(rt; told(board.away(Side::Buy, 0)), 6);
     assert_eq!(rt; board.count(), 16);
     assert!(rt; shows(&board, 1, 1, 1) && shows(&board, 16, 16, 1));
-    assert_eq!(rt; refused(&board, 17), 15);
+    assert_eq!(rt; told(board.entry(17)), 15);
     Ok(())
 }
 
 #[test]
 fn nothing(rt: HostRuntime) {
     assert_eq!(rt; Empty.count(), 0);
-    assert_eq!(rt; refused(&Empty, 1), 15);
+    assert_eq!(rt; told(Empty.entry(1)), 15);
 }
 
 #[test]
@@ -34,8 +34,8 @@ fn series(rt: HostRuntime) -> Result<(), Fail> {
     let mut market = SheetMarket::series(rt.alloc())?;
     assert_eq!(rt; told(market.quote(1, Edge::Bid, 1, &[])), 6);
     assert_eq!(rt; told(market.away(Side::Sell, 5)), 0);
-    assert_eq!(rt; told(market.rest(1, Side::Buy, 0, 1, Class::Other)), 6);
-    assert_eq!(rt; told(market.rest(1, Side::Buy, 1, 1, Class::Other)), 0);
-    assert_eq!(rt; told(market.rest(1, Side::Buy, 1, 1, Class::Other)), 16);
+    assert_eq!(rt; told(market.rest(buy(1, 0, 1))), 6);
+    assert_eq!(rt; told(market.rest(buy(1, 1, 1))), 0);
+    assert_eq!(rt; told(market.rest(buy(1, 1, 1))), 16);
     Ok(())
 }

@@ -1,14 +1,13 @@
 // The resting book, and two pools as one.
-use crate::told::{refused, shows, told};
+use crate::told::{buy, shows, told};
 use market::depth::{Depth, Pool};
-use market::names::{Class, Kind, Side};
+use market::names::Kind;
 use pools::book::Book;
 use pools::pair::Pair;
 use std::test::Fail;
 
-// A buy at a price, of class other.
 fn rest(book: &mut Book, number: i64, price: i64, size: i64) -> u8 {
-    told(book.rest(number, Side::Buy, price, size, Class::Other))
+    told(book.rest(buy(number, price, size)))
 }
 
 #[test]
@@ -63,8 +62,8 @@ fn seam(rt: HostRuntime) -> Result<(), Fail> {
     let mut both = Pair { first, second };
     assert_eq!(rt; both.count(), 3);
     assert!(rt; shows(&both, 2, 20, 2) && shows(&both, 3, 30, 3));
-    assert_eq!(rt; refused(&both, 0), 15);
-    assert_eq!(rt; refused(&both, 4), 15);
+    assert_eq!(rt; told(both.entry(0)), 15);
+    assert_eq!(rt; told(both.entry(4)), 15);
     assert_eq!(rt; told(both.take(3, 2)), 0);
     assert_eq!(rt; told(both.take(2, 3)), 15);
     assert_eq!(rt; told(both.take(2, 0)), 15);

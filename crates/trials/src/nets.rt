@@ -1,53 +1,40 @@
 // The legs market, and the market of a net.
-use crate::told::{refused, shows, told};
+use crate::told::{shows, told};
 use legs::pool::LegsMarket;
 use market::depth::{Depth, Pool};
+use market::names::Side::{Buy, Sell};
 use market::names::{Class, Edge, Leg, Side};
-use market::refusal::Refusal;
+use market::resting::Resting;
 use pools::sheet::SheetMarket;
 use std::test::Fail;
 
-fn bought(ratio: i64) -> Leg {
-    Leg {
-        side: Side::Buy,
-        ratio,
-    }
-}
-
-fn sold(ratio: i64) -> Leg {
-    Leg {
-        side: Side::Sell,
-        ratio,
-    }
-}
-
-// 0, or the number of the refusal.
-fn made(r: Result<LegsMarket, Refusal>) -> u8 {
-    match r {
-        Ok(_) => 0,
-        Err(e) => e.number(),
-    }
+fn leg(side: Side, ratio: i64) -> Leg {
+    Leg { side, ratio }
 }
 
 #[test]
 fn making(rt: HostRuntime) {
-    assert_eq!(rt; made(LegsMarket::new(&[])), 6);
-    assert_eq!(rt; made(LegsMarket::new(&[bought(1)])), 6);
-    assert_eq!(rt; made(LegsMarket::new(&[bought(1), sold(11)])), 6);
-    assert_eq!(rt; made(LegsMarket::new(&[bought(0), sold(1)])), 6);
-    assert_eq!(rt; made(LegsMarket::new(&[bought(1), sold(10)])), 0);
-    let four = [bought(1), sold(2), bought(3), sold(4)];
-    assert_eq!(rt; made(LegsMarket::new(&four)), 0);
-    let five = [bought(1), sold(2), bought(3), sold(4), sold(1)];
-    assert_eq!(rt; made(LegsMarket::new(&five)), 6);
+    assert_eq!(rt; told(LegsMarket::new(&[])), 6);
+    assert_eq!(rt; told(LegsMarket::new(&[leg(Buy, 1)])), 6);
+    assert_eq!(rt; told(LegsMarket::new(&[leg(Buy, 1), leg(Sell, 11)])), 6);
+    assert_eq!(rt; told(LegsMarket::new(&[leg(Buy, 0), leg(Sell, 1)])), 6);
+    assert_eq!(rt; told(LegsMarket::new(&[leg(Buy, 1), leg(Sell, 10)])), 0);
+    let four = [leg(Buy, 1), leg(Sell, 2), leg(Buy, 3), leg(Sell, 4)];
+    assert_eq!(rt; told(LegsMarket::new(&four)), 0);
+    let five = [
+        leg(Buy, 1),
+        leg(Sell, 2),
+        leg(Buy, 3),
+        leg(Sell, 4),
+        leg(Sell, 1),
+    ];
+    assert_eq!(rt; told(LegsMarket::new(&five)), 6);
 }
 
 // One leg is bought, two are sold for it.
 #[test]
 fn two_legs(rt: HostRuntime) -> Result<(), Fail> {
-    let Ok(mut legs) = LegsMarket::new(&[bought(1), sold(2)]) else {
-        return Err(Fail::new("refused"));
-    };
+    let mut legs = LegsMarket::new(&[leg(Buy, 1), leg(Sell, 2)]).expect(&rt, "refused");
     assert!(rt;
         shows(&legs, 1, -1, 0) && shows(&legs, 2, -1, 0),
         "no quotes at first"
@@ -58,7 +45,7 @@ fn two_legs(rt: HostRuntime) -> Result<(), Fail> {
     assert_eq!(rt; told(legs.quote(2, Edge::Offer, 105, &[100, 100])), 0);
     assert!(rt; shows(&legs, 1, 90, 61) && shows(&legs, 2, 110, 20));
     assert_eq!(rt; legs.count(), 2);
-    assert_eq!(rt; refused(&legs, 3), 15);
+    assert_eq!(rt; told(legs.entry(3)), 15);
     assert_eq!(rt; told(legs.take(1, 62)), 15);
     assert_eq!(rt; told(legs.take(1, 0)), 15);
     assert_eq!(rt; told(legs.take(3, 1)), 15);
@@ -93,9 +80,9 @@ fn two_legs(rt: HostRuntime) -> Result<(), Fail> {
 
 #[test]
 fn more_legs(rt: HostRuntime) -> Result<(), Fail> {
-    let Ok(mut three) = LegsMarket::new(&[bought(1), sold(3), bought(2)]) else {
-        return Err(Fail::new("refused"));
-    };
+    let mut three = LegsMarket::new(&[leg(Buy, 1), leg(Sell, 3), leg(Buy, 2)]).expect(
+        &rt, "refused",
+    );
     assert_eq!(rt; told(three.quote(1, Edge::Bid, 100, &[5])), 0);
     assert_eq!(rt; told(three.quote(2, Edge::Offer, 50, &[20])), 0);
     assert_eq!(rt; told(three.quote(3, Edge::Bid, 40, &[4, 4])), 0);
@@ -103,9 +90,9 @@ fn more_legs(rt: HostRuntime) -> Result<(), Fail> {
         shows(&three, 1, 30, 4),
         "100 - 150 + 80, for the third leg"
     );
-    let Ok(mut four) = LegsMarket::new(&[sold(1), sold(1), bought(10), bought(1)]) else {
-        return Err(Fail::new("refused"));
-    };
+    let mut four = LegsMarket::new(&[leg(Sell, 1), leg(Sell, 1), leg(Buy, 10), leg(Buy, 1)]).expect(
+        &rt, "refused",
+    );
     assert_eq!(rt; told(four.quote(1, Edge::Bid, 7, &[9])), 0);
     assert_eq!(rt; told(four.quote(2, Edge::Bid, 8, &[9])), 0);
     assert_eq!(rt; told(four.quote(3, Edge::Offer, 25_000, &[125_000])), 0);
@@ -116,13 +103,20 @@ fn more_legs(rt: HostRuntime) -> Result<(), Fail> {
 
 #[test]
 fn net(rt: HostRuntime) -> Result<(), Fail> {
-    let Ok(legs) = LegsMarket::new(&[bought(1), sold(1)]) else {
-        return Err(Fail::new("refused"));
-    };
+    let legs = LegsMarket::new(&[leg(Buy, 1), leg(Sell, 1)]).expect(&rt, "refused");
     let mut market = SheetMarket::net(rt.alloc(), legs)?;
-    assert_eq!(rt; told(market.away(Side::Buy, 1)), 6);
-    assert_eq!(rt; told(market.away(Side::Buy, 0)), 6);
-    assert_eq!(rt; told(market.rest(1, Side::Sell, -5, 1, Class::Customer)), 0);
+    assert_eq!(rt; told(market.away(Buy, 1)), 6);
+    assert_eq!(rt; told(market.away(Buy, 0)), 6);
+    assert_eq!(rt;
+        told(market.rest(Resting {
+            number: 1,
+            side: Sell,
+            price: -5,
+            size: 1,
+            class: Class::Customer,
+        })),
+        0
+    );
     assert_eq!(rt; told(market.quote(2, Edge::Bid, 3, &[1])), 0);
     assert_eq!(rt; told(market.quote(3, Edge::Bid, 3, &[1])), 6);
     Ok(())

@@ -1,7 +1,6 @@
 // The share-out.
 use crate::told::told;
 use share::{Claim, share_out};
-use std::test::Fail;
 
 #[derive(Clone, Copy)]
 struct Want {
@@ -36,19 +35,16 @@ fn three(a: u32, b: u32, c: u32) -> [Want; 3] {
 fn parts(rt: HostRuntime) {
     let mut out = [9u32; 3];
     assert_eq!(rt; told(share_out(6, &three(2, 4, 6), &mut out)), 0);
-    assert!(rt; out[0] == 1 && out[1] == 2 && out[2] == 3, "exact");
+    assert!(rt; out == [1, 2, 3], "exact");
     assert_eq!(rt; told(share_out(30, &three(10, 20, 31), &mut out)), 0);
     assert!(rt;
         out[0] == 5 && out[1] == 10 && out[2] == 15,
         "two odd contracts"
     );
     assert_eq!(rt; told(share_out(2, &three(0, 1, 2), &mut out)), 0);
-    assert!(rt;
-        out[0] == 0 && out[1] == 1 && out[2] == 1,
-        "none to a claim of nothing"
-    );
+    assert!(rt; out == [0, 1, 1], "none to a claim of nothing");
     assert_eq!(rt; told(share_out(0, &three(0, 0, 0), &mut out)), 0);
-    assert!(rt; out[0] == 0 && out[1] == 0 && out[2] == 0, "nothing wanted");
+    assert!(rt; out == [0, 0, 0], "nothing wanted");
 }
 
 #[test]
@@ -61,35 +57,31 @@ fn refusals(rt: HostRuntime) {
     assert_eq!(rt; told(share_out(1, &three(1, 2, 3), &mut pair)), 6);
     let level = [Want { size: 1, place: 4 }, Want { size: 1, place: 4 }];
     assert_eq!(rt; told(share_out(1, &level, &mut pair)), 6);
-    assert!(rt;
-        out[0] == 9 && out[1] == 9 && out[2] == 9 && pair[0] == 9 && pair[1] == 9,
-        "nothing written"
-    );
+    assert!(rt; out == [9, 9, 9] && pair == [9, 9], "nothing written");
     assert_eq!(rt;
         told(share_out(1_000_000, &three(0, 0, 1_000_000), &mut out)),
         0
     );
 }
 
-#[test]
-fn too_many(rt: HostRuntime) -> Result<(), Fail> {
-    let mut wants = [Want { size: 1, place: 0 }; 129];
-    for i in 0..129u32 {
-        wants[i as usize] = Want { size: 1, place: i };
+// So many claims of one contract each.
+fn line<const N: usize>() -> [Want; N] {
+    let mut wants = [Want { size: 1, place: 0 }; N];
+    for (place, want) in (0..).zip(wants.iter_mut()) {
+        want.place = place;
     }
-    let mut out = [0u32; 129];
-    assert_eq!(rt; told(share_out(5, &wants, &mut out)), 6);
-    Ok(())
+    wants
 }
 
 #[test]
-fn many(rt: HostRuntime) -> Result<(), Fail> {
-    let mut wants = [Want { size: 1, place: 0 }; 128];
-    for i in 0..128u32 {
-        wants[i as usize] = Want { size: 1, place: i };
-    }
+fn too_many(rt: HostRuntime) {
+    let mut out = [0u32; 129];
+    assert_eq!(rt; told(share_out(5, &line::<129>(), &mut out)), 6);
+}
+
+#[test]
+fn many(rt: HostRuntime) {
     let mut out = [0u32; 128];
-    assert_eq!(rt; told(share_out(5, &wants, &mut out)), 0);
+    assert_eq!(rt; told(share_out(5, &line::<128>(), &mut out)), 0);
     assert!(rt; out[0] == 1 && out[4] == 1 && out[5] == 0 && out[127] == 0);
-    Ok(())
 }

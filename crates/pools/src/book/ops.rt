@@ -47,7 +47,8 @@ impl Pool for Book {
         if !(1..=entry.size).contains(&n) {
             return Err(Refusal::NotTakable);
         }
-        self.orders[place - 1].entry.size -= n;
+        let order = &mut self.orders[place - 1];
+        order.entry.size -= n;
         Ok(())
     }
 }
