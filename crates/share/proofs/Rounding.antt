@@ -1,5 +1,6 @@
 -- What shares come to.
 use Rattle.std.proofs.Common.{◌≡◌, ℕ, zero, suc, ◌+◌, ◌-◌, ◌*◌, ◌/◌, ◌%◌, ◌<◌, ◌≤◌, min, Bool, true, false, cond, ◌&&◌, ltb, ◌⊎◌, List, [], ◌∷◌, map, length, get_or, sum, sym, refl, ap, ◌∙◌, inl, inr, ⊎_elim, mul-le-mul_right, mod-lt, mul_comm, add-mul, div-add-mod', zero-mul, mul-add, le_of_mul-le-mul_right, arith}
+use Rattle.std.proofs.lemmas.Simd.{map-map}
 use Rattle.std.proofs.lemmas.List.Sums.{sum_by-cons}
 use Rattle.std.proofs.lemmas.Bool.{ltb-true, ltb-false, lt-ltb, cases_lt}
 use Rattle.share.specs.Shares.{floors, extra, topped, shares, Fair}
@@ -144,6 +145,12 @@ module _ (a S : ℕ) where
       (λ pos. let u : F * S ≤ a * S = omega arith in let v : a * S ≤ (F + K) * S = omega arith in (le_of_mul-le-mul_right u pos, le_of_mul-le-mul_right v pos))
       (λ z. (omega arith, omega arith))
       (cases_lt 0 S)
+
+pub parts_fit : {C : Type 0} (W : C → ℕ) (a S : ℕ) (cs : List C) (top : ℕ) → a ≤ S → S ≡ sum (map W cs) → S < top → sum (map (λ x. a * W x / S) cs) < top
+parts_fit W a S cs top h all few =
+    let e = map-map (λ s. a * s / S) W cs in
+    let le = parts_le a S h (map W cs) in
+    rw (← e) (omega arith)
 
 pub get_d_sum : (ss : List ℕ) (i : ℕ) → get_or ss i 0 ≤ sum ss
 get_d_sum [] i = omega arith
