@@ -3,21 +3,17 @@ use Rattle.std.proofs.Common.{◌≤◌, List, [], ◌∷◌, map, sum, div-le_s
 use Rattle.std.specs.List.{AllByRecursion}
 use Rattle.market.specs.declared.names.Side.{Side}
 use Rattle.market.specs.declared.names.Side.TheVariants.{Buy, Sell}
-use Rattle.legs.specs.declared.legside.LegSide.{LegSide}
 use Rattle.legs.specs.declared.leg.LegQuotes.{LegQuotes}
 use Rattle.legs.specs.Model.{by_side, used, leg_size}
 use Rattle.legs.specs.Sides.{side_held}
 use Rattle.legs.specs.Legs.{leg_held}
-use Rattle.legs.proofs.Sided.{total_bound}
+use Rattle.legs.proofs.Sided.{side_bound}
 
 pub either : {X : Type 0} (P : X → Type 0) (s t : Side) (x y : X) → P x → P y → P (by_side s t x y)
 either P Buy Buy x y p q = p
 either P Buy Sell x y p q = q
 either P Sell Buy x y p q = q
 either P Sell Sell x y p q = p
-
-pub side_bound : (e : LegSide) → sum (side_held e).quotes ≤ 1000000
-side_bound e = total_bound e.quotes e.count e.line e.few
 
 pub used_bound : (s : Side) (l : LegQuotes) → sum (used s (leg_held l)).quotes ≤ 1000000
 used_bound s l = either (λ e. sum e.quotes ≤ 1000000) s l.side (side_held l.bid) (side_held l.offer) (side_bound l.bid) (side_bound l.offer)

@@ -1,4 +1,4 @@
-use Rattle.std.proofs.Common.{take, sym, ap, ◌∙◌}
+use Rattle.std.proofs.Common.{sym, ap, ◌∙◌}
 use Rattle.market.specs.Lists.{take_answer, after_take}
 use Rattle.legs.specs.Model.{listed, taken_at}
 use Rattle.legs.specs.Held.{legs_held}
@@ -10,7 +10,7 @@ use Rattle.legs.proofs.pool.ops.LegsMarketPool.take.Goals as goal
 pub returns-in-1 : goal.returns-in-1
 returns-in-1 c =
     let m = c.args.self.now in
-    let ls = take m.count m.legs in
+    let ls = m.legs.items in
     let hs = legs_held m in
     let n = c.args.n in
     let e = sym c.in-1.is in
@@ -24,7 +24,7 @@ returns-in-1 c =
 pub returns-in-2 : goal.returns-in-2
 returns-in-2 c =
     let m = c.args.self.now in
-    let ls = take m.count m.legs in
+    let ls = m.legs.items in
     let hs = legs_held m in
     let n = c.args.n in
     let e = sym c.in-2.is in
