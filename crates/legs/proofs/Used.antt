@@ -1,6 +1,5 @@
 -- The edge of a leg that an implied order uses.
-use Rattle.std.proofs.Common.{◌≤◌, List, [], ◌∷◌, map, sum, div-le_self, arith}
-use Rattle.std.specs.List.{AllByRecursion}
+use Rattle.std.proofs.Common.{◌≤◌, sum, div-le_self, arith}
 use Rattle.market.specs.declared.names.Side.{Side}
 use Rattle.market.specs.declared.names.Side.TheVariants.{Buy, Sell}
 use Rattle.legs.specs.declared.leg.LegQuotes.{LegQuotes}
@@ -21,7 +20,3 @@ used_bound s l = either (λ e. sum e.quotes ≤ 1000000) s l.side (side_held l.b
 -- a leg has contracts for at most 1,000,000 implied orders
 pub size_bound : (s : Side) (l : LegQuotes) → leg_size s (leg_held l) ≤ 1000000
 size_bound s l = let b = used_bound s l in let d = div-le_self (sum (used s (leg_held l)).quotes) l.ratio in omega arith
-
-pub sizes_bounds : (s : Side) (ls : List LegQuotes) → AllByRecursion (λ n. n ≤ 1000000) (map (leg_size s) (map leg_held ls))
-sizes_bounds s [] = tt
-sizes_bounds s (l ∷ ls) = (size_bound s l, sizes_bounds s ls)

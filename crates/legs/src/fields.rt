@@ -1,5 +1,5 @@
 // Whether fields are within their limits.
-ghost use Rattle.std.specs.Prelude.{◌≡◌, ℕ, ◌≤◌};
+ghost use Rattle.std.specs.Prelude.{◌≡◌, ◌≤◌};
 ghost use Rattle.legs.specs.Limits.{most_legs};
 ghost use Rattle.legs.specs.Fields.{sizes_ok};
 ghost use Rattle.legs.specs.Quoting.{quote_ok};

@@ -1,5 +1,5 @@
 // One leg of a net.
-ghost use Rattle.std.specs.Prelude.{◌≡◌, ℕ, ◌≤◌, pos};
+ghost use Rattle.std.specs.Prelude.{◌≤◌};
 ghost use Rattle.legs.specs.Limits.{highest_ratio};
 
 use super::legside::LegSide;

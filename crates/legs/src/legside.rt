@@ -1,5 +1,5 @@
 // One side of a leg, its bid or its offer.
-ghost use Rattle.std.specs.Prelude.{◌≡◌, ℕ, ◌≤◌, true, List, map, length};
+ghost use Rattle.std.specs.Prelude.{◌≡◌, ◌≤◌, true, length};
 ghost use Rattle.share.specs.Shares.{rises_from};
 ghost use Rattle.legs.specs.Limits.{highest_quote, most_quotes};
 ghost use Rattle.legs.specs.Quotes.{places};

@@ -1,5 +1,5 @@
 // The legs market of a net.
-ghost use Rattle.std.specs.Prelude.{ℕ, ◌≤◌, length};
+ghost use Rattle.std.specs.Prelude.{◌≤◌, length};
 ghost use Rattle.legs.specs.Limits.{least_legs, most_legs};
 
 use super::leg::LegQuotes;

@@ -1,5 +1,5 @@
 // A quote of a leg.
-ghost use Rattle.std.specs.Prelude.{◌≡◌, ℕ, ◌≤◌};
+ghost use Rattle.std.specs.Prelude.{◌≡◌, ◌≤◌};
 ghost use Rattle.legs.specs.Limits.{most_quoted};
 
 use share::Claim;
@@ -14,7 +14,7 @@ pub struct Quote {
 
 // What stands where no quote is.
 impl Default for Quote {
-    ghost is_default = { λ q. q.size ≡ 0 };
+    ghost is_default = { λ q. (q.place ≡ 0) × (q.size ≡ 0) };
 
     fn default() -> Quote {
         Quote { place: 0, size: 0 }

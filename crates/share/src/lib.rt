@@ -1,8 +1,8 @@
 // The share-out of an amount over claims in line.
 #![tactic(auto)]
 
-ghost use Rattle.std.specs.Prelude.{◌≡◌, ℕ, ◌*◌, ◌/◌, ◌≤◌, true, ◌&&◌, List, map, length, is_ok, sum, ◌==◌, nat_le};
-ghost use Rattle.share.specs.Shares.{small, measured, floors, extra, topped, share_answer, after_share, Fair};
+ghost use Rattle.std.specs.Prelude.{◌≡◌, ℕ, ◌*◌, ◌/◌, ◌≤◌, true, map, length, is_ok, sum};
+ghost use Rattle.share.specs.Shares.{measured, floors, extra, topped, share_answer, after_share, Fair};
 
 use market::limits::MOST_SIZE;
 use market::refusal::Refusal;
@@ -86,6 +86,7 @@ impl Rate {
         ensures { out.new ≡ topped left self.amount self.total (map C.wanted claims.now) }
     {
         let mut rest = left;
+        // By index: what is written through the `iter_mut` of a `zip` is not known afterwards.
         for (i, claim) in claims.iter().enumerate() {
             let size = claim.size();
             let floor = self.part(size);

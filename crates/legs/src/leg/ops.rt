@@ -1,5 +1,5 @@
 // What a leg gives to an implied order.
-ghost use Rattle.std.specs.Prelude.{◌≡◌, ℕ, ◌*◌, ◌≤◌, true, pos, negsuc, ◌≤ℤ◌, sum};
+ghost use Rattle.std.specs.Prelude.{◌≡◌, ◌*◌, ◌≤◌, true, pos, negsuc, ◌≤ℤ◌};
 ghost use Rattle.legs.specs.Model.{by_side, used, leg_price, leg_size, taken_leg};
 ghost use Rattle.market.specs.declared.names.Side.TheVariants.{Buy};
 ghost use Rattle.market.specs.declared.names.Edge.TheVariants.{Bid, Offer};

@@ -1,6 +1,6 @@
 // What a leg side holds, and what is taken from it.
-ghost use Rattle.std.specs.Prelude.{◌≡◌, ℕ, ◌≤◌, true, List, [], length, sum, slice_index};
-ghost use Rattle.legs.specs.Model.{SideHeld, taken_side, bare, less};
+ghost use Rattle.std.specs.Prelude.{◌≡◌, ℕ, ◌≤◌, true, length, sum, slice_index};
+ghost use Rattle.legs.specs.Model.{taken_side, bare, less};
 ghost use Rattle.legs.specs.Sides.{side_held};
 ghost use Rattle.legs.specs.Quotes.{sizes, places};
 ghost use Rattle.legs.specs.Fields.{price_ok, sizes_ok};
@@ -18,6 +18,7 @@ fn lower(quotes: &mut [Quote], by: &[u32])
     ensures sizes { sizes quotes.new ≡ less (sizes quotes.old) by.now }
     ensures places { places quotes.new ≡ places quotes.old }
 {
+    // By index: what is written through the `iter_mut` of a `zip` is not known afterwards.
     for (i, n) in by.iter().enumerate() {
         quotes[i].size -= *n;
     }
@@ -73,6 +74,7 @@ impl LegSide {
         requires { amount ≤ sum (side_held self.old).quotes }
         ensures { side_held self.new ≡ taken_side amount (side_held self.old) }
     {
+        // A table on the stack, lent to the share-out, so that nothing is allocated.
         let mut out = [0u32; MOST_QUOTES];
         let parts = &mut out[..self.quotes.len()];
         share_out(amount, &self.quotes, parts).unwrap();

@@ -1,5 +1,5 @@
 // The implied orders.
-ghost use Rattle.std.specs.Prelude.{◌≡◌, ℕ, ◌≤◌, false, List, map, is_ok, ℤ, ◌≤ℤ◌};
+ghost use Rattle.std.specs.Prelude.{◌≡◌, ◌≤◌, false, List, map, is_ok, ℤ, ◌≤ℤ◌};
 ghost use Rattle.std.specs.List.{AllByRecursion};
 ghost use Rattle.market.specs.Limits.{lowest_price, highest_price, most_size};
 ghost use Rattle.legs.specs.Model.{net_price, net_size, leg_size, taken_leg, implied, listed, taken_answer, taken_legs, taken_at};
@@ -7,7 +7,7 @@ ghost use Rattle.legs.specs.Quoting.{quote_answer, after_quote};
 ghost use Rattle.legs.specs.Making.{new_answer};
 ghost use Rattle.legs.specs.Legs.{leg_held};
 ghost use Rattle.legs.specs.Held.{legs_held, answer_held};
-ghost use Rattle.std.proofs.Common.{rules, arith};
+ghost use Rattle.std.proofs.Common.{rules};
 
 use super::super::fields::{parts_ok, quote_ok};
 use super::super::leg::LegQuotes;
