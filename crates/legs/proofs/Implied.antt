@@ -10,21 +10,25 @@ use Rattle.market.proofs.Placing.{up_to_bounds}
 use Rattle.legs.specs.declared.leg.LegQuotes.{LegQuotes}
 use Rattle.legs.specs.Model.{LegHeld, net_size, implied, listed, taken_leg, can_take, taken_legs, taken_answer}
 use Rattle.legs.specs.Legs.{leg_held}
+use Rattle.legs.proofs.Within.{net_size_few}
 use Rattle.legs.proofs.Taken.{implied_taken, implied_other}
 
-pub ratios : (ls : List LegQuotes) → AllByRecursion (λ l. 1 ≤ l.ratio) (map leg_held ls)
+ratios : (ls : List LegQuotes) → AllByRecursion (λ l. 1 ≤ l.ratio) (map leg_held ls)
 ratios [] = tt
 ratios (l ∷ ls) = (l.low, ratios ls)
 
 -- a take at the first place, and at the second
-module _ (n : ℕ) (ls : List LegHeld) (p : AllByRecursion (λ l. 1 ≤ l.ratio) ls) (few : (s : Side) → net_size s ls ≤ most_size) where
+module _ (n : ℕ) (qs : List LegQuotes) where
+  abbrev ls : List LegHeld
+  ls = map leg_held qs
+
   -- an implied order is listed with its size
   uncut : (s : Side) → min (net_size s ls) most_size ≡ net_size s ls
-  uncut s = let h = few s in omega arith
+  uncut s = let h = net_size_few s qs in omega arith
 
   buy_after : (t : Bool) → can_take Buy n ls ≡ t → listed (cond t (map (taken_leg Buy n) ls) ls) ≡ cond t (lowered n (implied Buy ls) ∷ implied Sell ls ∷ []) (listed ls)
   buy_after true e =
-      ap (λ x. x ∷ implied Sell (map (taken_leg Buy n) ls) ∷ []) (implied_taken Buy n ls p (up_to_bounds (net_size Buy ls) n e).1 (few Buy)) ∙ ap (λ x. lowered n (implied Buy ls) ∷ x ∷ []) (implied_other Buy n ls)
+      ap (λ x. x ∷ implied Sell (map (taken_leg Buy n) ls) ∷ []) (implied_taken Buy n ls (ratios qs) (up_to_bounds (net_size Buy ls) n e).1 (net_size_few Buy qs)) ∙ ap (λ x. lowered n (implied Buy ls) ∷ x ∷ []) (implied_other Buy n ls)
   buy_after false e = refl
 
   pub bought : listed (taken_legs Buy n ls) ≡ after_take (listed ls) 1 n
@@ -35,7 +39,7 @@ module _ (n : ℕ) (ls : List LegHeld) (p : AllByRecursion (λ l. 1 ≤ l.ratio)
 
   sell_after : (t : Bool) → can_take Sell n ls ≡ t → listed (cond t (map (taken_leg Sell n) ls) ls) ≡ cond t (implied Buy ls ∷ lowered n (implied Sell ls) ∷ []) (listed ls)
   sell_after true e =
-      ap (λ x. x ∷ implied Sell (map (taken_leg Sell n) ls) ∷ []) (implied_other Sell n ls) ∙ ap (λ x. implied Buy ls ∷ x ∷ []) (implied_taken Sell n ls p (up_to_bounds (net_size Sell ls) n e).1 (few Sell))
+      ap (λ x. x ∷ implied Sell (map (taken_leg Sell n) ls) ∷ []) (implied_other Sell n ls) ∙ ap (λ x. implied Buy ls ∷ x ∷ []) (implied_taken Sell n ls (ratios qs) (up_to_bounds (net_size Sell ls) n e).1 (net_size_few Sell qs))
   sell_after false e = refl
 
   pub sold : listed (taken_legs Sell n ls) ≡ after_take (listed ls) 2 n

@@ -9,5 +9,4 @@ mod Netting
 mod Taken
 mod Quoted
 mod Within
-mod Ways
 mod Implied

@@ -1,6 +1,6 @@
 -- The checks of the claims, one claim more.
-use Rattle.std.proofs.Common.{◌≡◌, ℕ, ◌+◌, ◌*◌, ◌<◌, ◌≤◌, true, false, ◌&&◌, leb, List, map, length, get_or, take, drop, Some, None, sum, sym, ap, ◌∙◌, arith}
-use Rattle.std.proofs.lemmas.List.{at_drop_more, at_drop_all, take_all, length-map, get_or-map}
+use Rattle.std.proofs.Common.{◌≡◌, ℕ, ◌+◌, ◌*◌, ◌<◌, ◌≤◌, true, false, ◌&&◌, leb, List, map, length, get_or, take, drop, None, sum, sym, ap, ◌∙◌, arith}
+use Rattle.std.proofs.lemmas.List.{at_drop_more, length-map, get_or-map}
 use Rattle.std.proofs.lemmas.List.Sums.{sum_by_more}
 use Rattle.std.proofs.lemmas.Bool.Decides.{nat_tests}
 use Rattle.market.specs.Lists.{all_of}
@@ -20,9 +20,6 @@ module _ {C : Type 0} (W P : C → ℕ) (cs : List C) where
 
   abbrev ps : List ℕ
   ps = map P cs
-
-  pub too_many : 128 < length cs → None ≡ measured ss ps
-  too_many h = let m = length-map cs W in grind (arith, nat_tests)
 
   module _ (i total low s p : ℕ) (x : C) (inv : Checking ss ps i total low) (h : i < length cs) (r : x ≡ get_or cs i x) (se : s ≡ W x) (pe : p ≡ P x) where
     size_here : get_or ss i 0 ≡ s
@@ -56,12 +53,3 @@ module _ {C : Type 0} (W P : C → ℕ) (cs : List C) where
           summed = sym (sum_by_more (λ y. y) ss i 0 lt ∙ ap (λ y. sum (take i ss) + y) size_here ∙ ap (λ y. y + s) (sym inv.summed));
           bound = let k = inv.bound in let b : s ≤ most_size = grind (arith, nat_tests) in omega arith;
         }
-
-  pub check_done : (i total low : ℕ) → Checking ss ps i total low → length cs ≤ 128 → length cs ≤ i → Some total ≡ measured ss ps
-  check_done i total low inv few all =
-      let m = length-map cs W in
-      let k = length-map cs P in
-      let b : all_of small ss ≡ true = inv.sizes ∙ at_drop_all (all_of small) ss i (omega arith) in
-      let c : rises_from 0 ps ≡ true = inv.places ∙ at_drop_all (rises_from low) ps i (omega arith) in
-      let t : total ≡ sum ss = inv.summed ∙ ap sum (take_all i ss (omega arith)) in
-      grind (arith, nat_tests)

@@ -14,6 +14,3 @@ pub loop-i-preserved : goal.loop-i-preserved
 loop-i-preserved c =
     let h : c.loop-i.i < length c.loop-i.quotes = omega arith in
     lowering_more _ _ _ _ c.loop-i.invariant h c.index-quotes-i.result c.index-quotes-i-in-loop-i.result _ c.loop-i-test.true refl refl
-
-pub returns-clause-sizes : goal.returns-clause-sizes
-returns-clause-sizes c = lowering_all _ _ _ _ c.loop-i.invariant c.loop-i-test.false
