@@ -1,5 +1,5 @@
 use Rattle.std.proofs.Common.{◌<◌, length, refl, arith}
-use Rattle.legs.proofs.Lowering.{here, lowering_none, lowering_more, lowering_all}
+use Rattle.legs.proofs.Lowering.{here, lowering_none, lowering_more}
 use Rattle.legs.proofs.legside.ops.lower.Goals as goal
 
 pub overflow_sub-quotes : goal.overflow_sub-quotes
