@@ -1,27 +1,26 @@
 -- Quotes as claims of the share-out.
-use Rattle.std.proofs.Common.{◌≡◌, ℕ, ◌≤◌, true, ◌&&◌, eqb, leb, List, [], ◌∷◌, length, is_ok, sum, Result, refl, ap, ◌∙◌, arith}
+use Rattle.std.proofs.Common.{◌≡◌, ℕ, ◌≤◌, true, cond, List, [], ◌∷◌, length, sum, Ok, Err, Result, is_ok, refl, ap, ◌∙◌, arith}
 use Rattle.std.proofs.lemmas.List.{length-map}
-use Rattle.std.proofs.lemmas.Bool.{and_from, le-leb, eq-eqb}
-use Rattle.market.specs.Lists.{all_of}
+use Rattle.std.proofs.lemmas.Bool.Decides.{nat_tests}
 use Rattle.market.specs.declared.refusal.Refusal.{Refusal}
-use Rattle.share.specs.Shares.{small, rises_from, lawful, shares, shareable, share_answer, after_share}
+use Rattle.market.specs.declared.refusal.Refusal.TheVariants.{OutOfLimits}
+use Rattle.market.specs.Lists.{all_of}
+use Rattle.share.specs.Shares.{small, shareable, share_answer}
 use Rattle.legs.specs.declared.quote.Quote.{Quote}
+use Rattle.legs.specs.declared.legside.LegSide.{LegSide}
 use Rattle.legs.specs.Quotes.{size_of, sizes, places}
 
-pub all_small : (qs : List Quote) → all_of small (sizes qs) ≡ true
+all_small : (qs : List Quote) → all_of small (sizes qs) ≡ true
 all_small [] = refl
-all_small (q ∷ qs) = let k = q.few in and_from (small q.size) (all_of small (sizes qs)) (le-leb q.size 1000000 (omega arith)) (all_small qs)
+all_small (q ∷ qs) = let k = q.few in let rest = all_small qs in grind (arith, nat_tests)
 
-module _ (qs : List Quote) (a : ℕ) (out : List ℕ) (few : length qs ≤ 8) (rising : rises_from 0 (places qs) ≡ true) (enough : a ≤ sum (sizes qs)) (long : length out ≡ length qs) where
-  able : shareable a (sizes qs) (places qs) (length out) ≡ true
-  able =
-      let m = length-map qs size_of in
-      let ss = sizes qs in
-      let ps = places qs in
-      and_from (lawful ss ps) (leb a (sum ss) && eqb (length out) (length ss))
-      (and_from (leb (length ss) 128) (all_of small ss && rises_from 0 ps) (le-leb (length ss) 128 (omega arith)) (and_from (all_of small ss) (rises_from 0 ps) (all_small qs) rising))
-      (and_from (leb a (sum ss)) (eqb (length out) (length ss)) (le-leb a (sum ss) enough) (eq-eqb (length out) (length ss) (omega arith)))
-
-  -- the share-out of what the quotes have is never refused
-  pub served : (r : Result (Unit {0}) Refusal) (new : List ℕ) → r ≡ share_answer a (sizes qs) (places qs) (length out) → new ≡ after_share a (sizes qs) (places qs) out → (is_ok r ≡ true) × (new ≡ shares a (sizes qs))
-  served r new answer after = (ap is_ok answer ∙ rw able refl, after ∙ rw able refl)
+-- the share-out of what the quotes have is never refused
+pub served : (e : LegSide) (qs : List Quote) (a n : ℕ) (r : Result (Unit {0}) Refusal) → qs ≡ e.quotes.items → a ≤ sum (sizes e.quotes.items) → n ≡ length e.quotes.items → r ≡ share_answer a (sizes qs) (places qs) n → is_ok r ≡ true
+served e qs a n r same enough long answer =
+    let m = length-map e.quotes.items size_of in
+    let s = all_small e.quotes.items in
+    let f = e.few in
+    let l = e.line in
+    let able : shareable a (sizes e.quotes.items) (places e.quotes.items) n ≡ true = grind (arith, nat_tests) in
+    let ok : r ≡ Ok tt = answer ∙ ap (λ xs. share_answer a (sizes xs) (places xs) n) same ∙ ap (λ t. cond t (Ok tt) (Err OutOfLimits)) able in
+    ap is_ok ok

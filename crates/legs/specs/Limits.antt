@@ -1,5 +1,5 @@
 -- The limits of what a legs market holds.
-use Rattle.std.specs.Prelude.{ℕ, List, [], ◌∷◌}
+use Rattle.std.specs.Prelude.{ℕ}
 
 -- how many legs
 abbrev pub least_legs : ℕ
@@ -22,7 +22,3 @@ most_quotes = 8
 
 abbrev pub most_quoted : ℕ
 most_quoted = 125000
-
--- the places of the quotes of a leg side
-abbrev pub eight : List ℕ
-eight = 1 ∷ 2 ∷ 3 ∷ 4 ∷ 5 ∷ 6 ∷ 7 ∷ 8 ∷ []

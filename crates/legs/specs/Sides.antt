@@ -1,8 +1,7 @@
 -- What an edge holds.
-use Rattle.std.specs.Prelude.{take}
 use Rattle.legs.specs.declared.legside.LegSide.{LegSide}
 use Rattle.legs.specs.Model.{SideHeld}
 use Rattle.legs.specs.Quotes.{sizes}
 
 abbrev pub side_held : LegSide → SideHeld
-side_held e = record { price = e.price; quotes = sizes (take e.count e.quotes) }
+side_held e = record { price = e.price; quotes = sizes e.quotes.items }

@@ -1,5 +1,5 @@
 // One leg of a net.
-ghost use Rattle.std.specs.Prelude.{ℕ, ◌≤◌};
+ghost use Rattle.std.specs.Prelude.{◌≤◌};
 ghost use Rattle.legs.specs.Limits.{highest_ratio};
 
 use super::legside::LegSide;
@@ -8,7 +8,7 @@ use market::names::Side;
 pub mod ops;
 
 // How often the leg is bought or sold in the net, and what is bid and offered for it.
-#[derive(Clone, Copy)]
+#[derive(Drop)]
 pub struct LegQuotes {
     side: Side,
     ratio: u32,

@@ -1,21 +1,19 @@
 // The legs market of a net.
-ghost use Rattle.std.specs.Prelude.{◌≡◌, ℕ, ◌≤◌, length};
+ghost use Rattle.std.specs.Prelude.{◌≤◌, length};
 ghost use Rattle.legs.specs.Limits.{least_legs, most_legs};
 
 use super::leg::LegQuotes;
+use arrayvec::ArrayVec;
 
 pub mod ops;
-mod sums;
 
 // How many legs a net has at most.
 pub const MOST_LEGS: usize = 4;
 
-// Legs; what lies past the count is not used.
+// The legs, in the order in which they were handed in.
 #[derive(Drop)]
 pub struct LegsMarket {
-    legs: [LegQuotes; MOST_LEGS],
-    count: usize,
-    ghost low: { least_legs ≤ count },
-    ghost high: { count ≤ most_legs },
-    ghost whole: { length legs ≡ most_legs },
+    legs: ArrayVec<LegQuotes, MOST_LEGS>,
+    ghost low: { least_legs ≤ length legs.items },
+    ghost high: { length legs.items ≤ most_legs },
 }

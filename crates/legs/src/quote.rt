@@ -1,10 +1,8 @@
 // A quote of a leg.
-ghost use Rattle.std.specs.Prelude.{ℕ, ◌≤◌};
+ghost use Rattle.std.specs.Prelude.{◌≡◌, ◌≤◌};
 ghost use Rattle.legs.specs.Limits.{most_quoted};
 
 use share::Claim;
-
-pub mod ops;
 
 // A size, with its place in line.
 #[derive(Clone, Copy)]
@@ -12,6 +10,15 @@ pub struct Quote {
     pub place: u32,
     pub size: u32,
     ghost few: { size ≤ most_quoted },
+}
+
+// What stands where no quote is.
+impl Default for Quote {
+    ghost is_default = { λ q. (q.place ≡ 0) × (q.size ≡ 0) };
+
+    fn default() -> Quote {
+        Quote { place: 0, size: 0 }
+    }
 }
 
 impl Claim for Quote {

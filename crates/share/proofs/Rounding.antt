@@ -1,9 +1,14 @@
 -- What shares come to.
-use Rattle.std.proofs.Common.{◌≡◌, ℕ, zero, suc, ◌+◌, ◌-◌, ◌*◌, ◌/◌, ◌%◌, ◌<◌, ◌≤◌, min, Bool, true, false, cond, ◌&&◌, ltb, ◌⊎◌, List, [], ◌∷◌, map, length, get_or, sum, sym, refl, ap, ◌∙◌, inl, inr, ⊎_elim, mul-le-mul_right, mod-lt, mul_comm, add-mul, div-add-mod', zero-mul, mul-add, le_of_mul-le-mul_right, arith}
+use Rattle.std.proofs.Common.{◌≡◌, ℕ, zero, suc, ◌+◌, ◌-◌, ◌*◌, ◌/◌, ◌%◌, ◌<◌, ◌≤◌, min, cond, ltb, ◌⊎◌, List, [], ◌∷◌, map, length, get_or, sum, sym, refl, ap, ◌∙◌, ⊎_elim, mul-le-mul_right, mod-lt, mul_comm, add-mul, div-add-mod', zero-mul, mul-add, le_of_mul-le-mul_right, arith}
+use Rattle.std.proofs.lemmas.Simd.{map-map}
 use Rattle.std.proofs.lemmas.List.Sums.{sum_by-cons}
-use Rattle.std.proofs.lemmas.Bool.{ltb-true, ltb-false, lt-ltb, cases_lt}
+use Rattle.std.proofs.lemmas.Bool.Decides.{nat_tests}
+use Rattle.std.proofs.lemmas.Bool.{lt-ltb, cases_lt}
 use Rattle.share.specs.Shares.{floors, extra, topped, shares, Fair}
-use Rattle.share.proofs.Parts.{part_le}
+use native.Mathlib.Nat.{div-le_of_le-mul}
+
+part_le : (a S s : ℕ) → a ≤ S → a * s / S ≤ s
+part_le a S s h = div-le_of_le-mul S (mul-le-mul_right s h)
 
 module _ (a S : ℕ) where
   -- what is cut off where a part is rounded down
@@ -69,11 +74,8 @@ module _ (a S : ℕ) where
       let rest = parts_le h ss in
       omega arith
 
-  extra_min : (n f s k : ℕ) (t u : Bool) → ltb 0 n ≡ t → ltb f s ≡ u → cond (t && u) 1 0 + min (n - cond (t && u) 1 0) k ≡ min n (cond u 1 0 + k)
-  extra_min n f s k true true p q = let h = ltb-true 0 n p in omega arith
-  extra_min n f s k true false p q = omega arith
-  extra_min n f s k false true p q = let h = ltb-false 0 n p in omega arith
-  extra_min n f s k false false p q = omega arith
+  extra_min : (n f s k : ℕ) → extra n f s + min (n - extra n f s) k ≡ min n (cond (ltb f s) 1 0 + k)
+  extra_min n f s k = grind (arith, nat_tests)
 
   topped_sum : (n : ℕ) (ss : List ℕ) → sum (topped n a S ss) ≡ sum (floors a S ss) + min n (sum (map more ss))
   topped_sum n [] = omega arith
@@ -83,31 +85,27 @@ module _ (a S : ℕ) where
       let f = sum_by-cons (λ y. y) (a * s / S) (floors a S ss) in
       let k = sum_by-cons (λ y. y) (more s) (map more ss) in
       let rest = topped_sum (n - x) ss in
-      let e : x + min (n - x) (sum (map more ss)) ≡ min n (more s + sum (map more ss)) = extra_min n (a * s / S) s (sum (map more ss)) (ltb 0 n) (ltb (a * s / S) s) refl refl in
+      let e : x + min (n - x) (sum (map more ss)) ≡ min n (more s + sum (map more ss)) = extra_min n (a * s / S) s (sum (map more ss)) in
       omega arith
 
   pub topped_length : (n : ℕ) (ss : List ℕ) → length (topped n a S ss) ≡ length ss
   topped_length n [] = refl
   topped_length n (s ∷ ss) = ap suc (topped_length (n - extra n (a * s / S) s) ss)
 
-  extra_le : (n f s : ℕ) (t u : Bool) → ltb 0 n ≡ t → ltb f s ≡ u → f ≤ s → f + cond (t && u) 1 0 ≤ s
-  extra_le n f s true true p q h = let k = ltb-true f s q in omega arith
-  extra_le n f s true false p q h = omega arith
-  extra_le n f s false true p q h = omega arith
-  extra_le n f s false false p q h = omega arith
+  extra_le : (n f s : ℕ) → f ≤ s → f + extra n f s ≤ s
+  extra_le n f s h = grind (arith, nat_tests)
 
   topped_le : a ≤ S → (n : ℕ) (ss : List ℕ) (i : ℕ) → get_or (topped n a S ss) i 0 ≤ get_or ss i 0
   topped_le h n [] i = omega arith
-  topped_le h n (s ∷ ss) zero = extra_le n (a * s / S) s (ltb 0 n) (ltb (a * s / S) s) refl refl (part_le a S s h)
+  topped_le h n (s ∷ ss) zero = extra_le n (a * s / S) s (part_le a S s h)
   topped_le h n (s ∷ ss) (suc i) = topped_le h (n - extra n (a * s / S) s) ss i
 
-  extra_near : (f : ℕ) (t : Bool) → (f + cond t 1 0 ≡ f) ⊎ (f + cond t 1 0 ≡ f + 1)
-  extra_near f true = inr refl
-  extra_near f false = inl (omega arith)
+  extra_near : (n f s : ℕ) → (f + extra n f s ≡ f) ⊎ (f + extra n f s ≡ f + 1)
+  extra_near n f s = grind (arith, nat_tests)
 
   pub topped_near : (n : ℕ) (ss : List ℕ) (i : ℕ) → i < length ss → (get_or (topped n a S ss) i 0 ≡ a * get_or ss i 0 / S) ⊎ (get_or (topped n a S ss) i 0 ≡ a * get_or ss i 0 / S + 1)
   topped_near n [] i h = absurd (omega arith)
-  topped_near n (s ∷ ss) zero h = extra_near (a * s / S) (ltb 0 n && ltb (a * s / S) s)
+  topped_near n (s ∷ ss) zero h = extra_near n (a * s / S) s
   topped_near n (s ∷ ss) (suc i) h = topped_near (n - extra n (a * s / S) s) ss i (omega arith)
 
   -- with nothing left over, each has its part
@@ -117,16 +115,14 @@ module _ (a S : ℕ) where
   topped_none (s ∷ ss) (suc j) h = topped_none ss j (omega arith)
 
   -- a claim that wants more gets none only where none is left
-  used_up : (n f s : ℕ) (t u : Bool) → ltb 0 n ≡ t → ltb f s ≡ u → f < s → f + cond (t && u) 1 0 ≡ f → n - cond (t && u) 1 0 ≡ 0
-  used_up n f s true true p q h e = absurd (omega arith)
-  used_up n f s true false p q h e = absurd (let k = ltb-false f s q in omega arith)
-  used_up n f s false u p q h e = let k = ltb-false 0 n p in omega arith
+  used_up : (n f s : ℕ) → f < s → f + extra n f s ≡ f → n - extra n f s ≡ 0
+  used_up n f s h e = grind (arith, nat_tests)
 
   topped_first : (n : ℕ) (ss : List ℕ) (i j : ℕ) → i < j → j < length ss → a * get_or ss i 0 / S < get_or ss i 0 → get_or (topped n a S ss) i 0 ≡ a * get_or ss i 0 / S → get_or (topped n a S ss) j 0 ≡ a * get_or ss j 0 / S
   topped_first n [] i j h k w e = absurd (omega arith)
   topped_first n (s ∷ ss) i zero h k w e = absurd (omega arith)
   topped_first n (s ∷ ss) zero (suc j) h k w e =
-      let z = used_up n (a * s / S) s (ltb 0 n) (ltb (a * s / S) s) refl refl w e in
+      let z = used_up n (a * s / S) s w e in
       ap (λ m. get_or (topped m a S ss) j 0) z ∙ topped_none ss j (omega arith)
   topped_first n (s ∷ ss) (suc i) (suc j) h k w e = topped_first (n - extra n (a * s / S) s) ss i j (omega arith) (omega arith) w e
 
@@ -144,6 +140,12 @@ module _ (a S : ℕ) where
       (λ pos. let u : F * S ≤ a * S = omega arith in let v : a * S ≤ (F + K) * S = omega arith in (le_of_mul-le-mul_right u pos, le_of_mul-le-mul_right v pos))
       (λ z. (omega arith, omega arith))
       (cases_lt 0 S)
+
+pub parts_fit : {C : Type 0} (W : C → ℕ) (a S : ℕ) (cs : List C) (top : ℕ) → a ≤ S → S ≡ sum (map W cs) → S < top → sum (map (λ x. a * W x / S) cs) < top
+parts_fit W a S cs top h all few =
+    let e = map-map (λ s. a * s / S) W cs in
+    let le = parts_le a S h (map W cs) in
+    rw (← e) (omega arith)
 
 pub get_d_sum : (ss : List ℕ) (i : ℕ) → get_or ss i 0 ≤ sum ss
 get_d_sum [] i = omega arith

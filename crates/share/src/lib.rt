@@ -1,8 +1,8 @@
 // The share-out of an amount over claims in line.
 #![tactic(auto)]
 
-ghost use Rattle.std.specs.Prelude.{◌≡◌, ℕ, ◌*◌, ◌/◌, ◌≤◌, true, ◌&&◌, List, map, length, is_ok, sum, ◌==◌, nat_le};
-ghost use Rattle.share.specs.Shares.{small, measured, floors, extra, topped, share_answer, after_share, Fair};
+ghost use Rattle.std.specs.Prelude.{◌≡◌, ℕ, ◌*◌, ◌/◌, ◌≤◌, true, map, length, is_ok, sum};
+ghost use Rattle.share.specs.Shares.{measured, floors, extra, topped, share_answer, after_share, Fair};
 
 use market::limits::MOST_SIZE;
 use market::refusal::Refusal;
@@ -24,20 +24,6 @@ pub trait Claim {
 // The most claims that share.
 pub const MOST_CLAIMS: usize = 128;
 
-// Whether a claim is within its limits, where places from `low` on are behind those before it.
-fn in_line(size: u32, place: u64, low: u64) -> bool
-    ensures { result ≡ small size && nat_le low place }
-{
-    size <= MOST_SIZE && low <= place
-}
-
-// Whether claims want an amount, and there is room for a share of each.
-fn enough(amount: u32, total: u32, claims: usize, room: usize) -> bool
-    ensures { result ≡ nat_le amount total && (room == claims) }
-{
-    amount <= total && room == claims
-}
-
 // The contracts wanted in all, where the claims are within their limits.
 fn measure<C: Claim>(claims: &[C]) -> Option<u32>
     ensures { result ≡ measured (map C.wanted claims.now) (map C.standing claims.now) }
@@ -50,7 +36,8 @@ fn measure<C: Claim>(claims: &[C]) -> Option<u32>
     for claim in claims {
         let size = claim.size();
         let place = u64::from(claim.place());
-        if !in_line(size, place, low) {
+        let in_line = size <= MOST_SIZE && low <= place;
+        if !in_line {
             return None;
         }
         total += size;
@@ -59,50 +46,54 @@ fn measure<C: Claim>(claims: &[C]) -> Option<u32>
     Some(total)
 }
 
-// A claim's part of the amount, rounded down.
-fn part(amount: u32, total: u32, size: u32) -> u32
-    requires { amount ≤ total }
-    ensures { result ≡ amount * size / total }
-{
-    if total == 0 {
-        return 0;
-    }
-    (u64::from(amount) * u64::from(size) / u64::from(total)) as u32
-}
-
 // One contract more for a claim that has less than its size, while some are left.
 fn one_more(left: u32, floor: u32, size: u32) -> u32
     ensures { result ≡ extra left floor size }
 {
-    if left > 0 && floor < size { 1 } else { 0 }
+    u32::from(left > 0 && floor < size)
 }
 
-// What the parts come to.
-fn rounded<C: Claim>(amount: u32, total: u32, claims: &[C]) -> u32
-    requires within { amount ≤ total }
-    requires all { total ≡ sum (map C.wanted claims.now) }
-    ensures { result ≡ sum (floors amount total (map C.wanted claims.now)) }
-{
-    let mut given: u32 = 0;
-    for claim in claims {
-        given += part(amount, total, claim.size());
+// An amount out of what the claims want in all.
+#[derive(Clone, Copy)]
+struct Rate {
+    amount: u32,
+    total: u32,
+    ghost within: { amount ≤ total },
+}
+
+impl Rate {
+    // A claim's part of the amount, rounded down.
+    fn part(self, size: u32) -> u32
+        ensures { result ≡ self.amount * size / self.total }
+    {
+        if self.total == 0 {
+            return 0;
+        }
+        (u64::from(self.amount) * u64::from(size) / u64::from(self.total)) as u32
     }
-    given
-}
 
-// Writes each claim's share, where `left` contracts are left over by the parts.
-fn fill<C: Claim>(amount: u32, total: u32, left: u32, claims: &[C], out: &mut [u32])
-    requires within { amount ≤ total }
-    requires room { length out.old ≡ length claims.now }
-    ensures { out.new ≡ topped left amount total (map C.wanted claims.now) }
-{
-    let mut rest = left;
-    for (i, claim) in claims.iter().enumerate() {
-        let size = claim.size();
-        let floor = part(amount, total, size);
-        let more = one_more(rest, floor, size);
-        out[i] = floor + more;
-        rest -= more;
+    // What the parts come to.
+    fn rounded<C: Claim>(self, claims: &[C]) -> u32
+        requires { self.total ≡ sum (map C.wanted claims.now) }
+        ensures { result ≡ sum (floors self.amount self.total (map C.wanted claims.now)) }
+    {
+        claims.iter().map(|claim| self.part(claim.size())).sum()
+    }
+
+    // Writes each claim's share, where `left` contracts are left over by the parts.
+    fn fill<C: Claim>(self, left: u32, claims: &[C], out: &mut [u32])
+        requires { length out.old ≡ length claims.now }
+        ensures { out.new ≡ topped left self.amount self.total (map C.wanted claims.now) }
+    {
+        let mut rest = left;
+        // By index: what is written through the `iter_mut` of a `zip` is not known afterwards.
+        for (i, claim) in claims.iter().enumerate() {
+            let size = claim.size();
+            let floor = self.part(size);
+            let more = one_more(rest, floor, size);
+            out[i] = floor + more;
+            rest -= more;
+        }
     }
 }
 
@@ -114,13 +105,12 @@ pub fn share_out<C: Claim>(amount: u32, claims: &[C], out: &mut [u32]) -> Result
     ensures after { out.new ≡ after_share amount (map C.wanted claims.now) (map C.standing claims.now) out.old }
     ensures fair { is_ok result ≡ true → Fair amount (map C.wanted claims.now) out.new }
 {
-    let Some(total) = measure(claims) else {
-        return Err(Refusal::OutOfLimits);
-    };
-    if !enough(amount, total, claims.len(), out.len()) {
+    let total = measure(claims).ok_or(Refusal::OutOfLimits)?;
+    if amount > total || out.len() != claims.len() {
         return Err(Refusal::OutOfLimits);
     }
-    let given = rounded(amount, total, claims);
-    fill(amount, total, amount - given, claims, out);
+    let rate = Rate { amount, total };
+    let left = amount - rate.rounded(claims);
+    rate.fill(left, claims, out);
     Ok(())
 }

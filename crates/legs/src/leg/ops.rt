@@ -1,6 +1,8 @@
 // What a leg gives to an implied order.
-ghost use Rattle.std.specs.Prelude.{◌≡◌, ℕ, ◌*◌, ◌≤◌, true, pos, negsuc, ◌≤ℤ◌, sum};
-ghost use Rattle.legs.specs.Model.{used, leg_price, leg_size, taken_leg};
+ghost use Rattle.std.specs.Prelude.{◌≡◌, ◌*◌, ◌≤◌, true, pos, negsuc, ◌≤ℤ◌};
+ghost use Rattle.legs.specs.Model.{by_side, used, leg_price, leg_size, taken_leg};
+ghost use Rattle.market.specs.declared.names.Side.TheVariants.{Buy};
+ghost use Rattle.market.specs.declared.names.Edge.TheVariants.{Bid, Offer};
 ghost use Rattle.legs.specs.Sides.{side_held};
 ghost use Rattle.legs.specs.Fields.{ratio_ok};
 ghost use Rattle.legs.specs.Making.{fresh_leg};
@@ -10,6 +12,15 @@ ghost use Rattle.legs.specs.Legs.{leg_held};
 use super::super::legside::LegSide;
 use super::LegQuotes;
 use market::names::{Edge, Side};
+
+// What stands where no leg is.
+impl Default for LegQuotes {
+    ghost is_default = { λ l. leg_held l ≡ fresh_leg Buy (pos 1) };
+
+    fn default() -> LegQuotes {
+        LegQuotes::new(Side::Buy, 1)
+    }
+}
 
 impl LegQuotes {
     // A leg without quotes.
@@ -25,13 +36,24 @@ impl LegQuotes {
         }
     }
 
-    // The side of the leg that an implied order uses.
+    // The edge that an implied order of a side uses.
+    fn edge(&self, side: Side) -> Edge
+        ensures { result ≡ by_side side (leg_held self.now).side Bid Offer }
+    {
+        if side == self.side {
+            Edge::Bid
+        } else {
+            Edge::Offer
+        }
+    }
+
+    // The side of the leg that it uses.
     fn used(&self, side: Side) -> &LegSide
         ensures { side_held result.now ≡ used side (leg_held self.now) }
     {
-        match (side, self.side) {
-            (Side::Buy, Side::Buy) | (Side::Sell, Side::Sell) => &self.bid,
-            _ => &self.offer,
+        match self.edge(side) {
+            Edge::Bid => &self.bid,
+            Edge::Offer => &self.offer,
         }
     }
 
@@ -70,9 +92,9 @@ impl LegQuotes {
         ensures { leg_held self.new ≡ taken_leg side n (leg_held self.old) }
     {
         let amount = n * self.ratio;
-        match (side, self.side) {
-            (Side::Buy, Side::Buy) | (Side::Sell, Side::Sell) => self.bid.take(amount),
-            _ => self.offer.take(amount),
+        match self.edge(side) {
+            Edge::Bid => self.bid.take(amount),
+            Edge::Offer => self.offer.take(amount),
         }
     }
 

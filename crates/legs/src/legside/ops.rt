@@ -1,12 +1,28 @@
 // What a leg side holds, and what is taken from it.
-ghost use Rattle.std.specs.Prelude.{◌≡◌, ℕ, ◌≤◌, true, List, [], sum};
-ghost use Rattle.legs.specs.Model.{SideHeld, taken_side, bare};
+ghost use Rattle.std.specs.Prelude.{◌≡◌, ℕ, ◌≤◌, true, length, sum, slice_index};
+ghost use Rattle.legs.specs.Model.{taken_side, bare, less};
 ghost use Rattle.legs.specs.Sides.{side_held};
+ghost use Rattle.legs.specs.Quotes.{sizes, places};
 ghost use Rattle.legs.specs.Fields.{price_ok, sizes_ok};
 ghost use Rattle.legs.specs.Quoting.{quoted_side};
 
-use super::super::quote::{Quote, ops};
-use super::LegSide;
+use super::super::quote::Quote;
+use super::{LegSide, MOST_QUOTES};
+use arrayvec::ArrayVec;
+use share::share_out;
+
+// Lowers each quote by its number.
+fn lower(quotes: &mut [Quote], by: &[u32])
+    requires long { length by.now ≡ length quotes.old }
+    requires within { (i : ℕ) → slice_index by.now i ≤ slice_index (sizes quotes.old) i }
+    ensures sizes { sizes quotes.new ≡ less (sizes quotes.old) by.now }
+    ensures places { places quotes.new ≡ places quotes.old }
+{
+    // By index: what is written through the `iter_mut` of a `zip` is not known afterwards.
+    for (i, n) in by.iter().enumerate() {
+        quotes[i].size -= *n;
+    }
+}
 
 impl LegSide {
     // At first the price is 1, and there are no quotes.
@@ -15,17 +31,7 @@ impl LegSide {
     {
         LegSide {
             price: 1,
-            quotes: [
-                Quote { place: 1, size: 0 },
-                Quote { place: 2, size: 0 },
-                Quote { place: 3, size: 0 },
-                Quote { place: 4, size: 0 },
-                Quote { place: 5, size: 0 },
-                Quote { place: 6, size: 0 },
-                Quote { place: 7, size: 0 },
-                Quote { place: 8, size: 0 },
-            ],
-            count: 0,
+            quotes: ArrayVec::new(),
         }
     }
 
@@ -35,12 +41,16 @@ impl LegSide {
         requires sizes { sizes_ok sizes.now ≡ true }
         ensures { side_held result ≡ quoted_side price sizes.now }
     {
-        let mut quotes = LegSide::new().quotes;
-        ops::refill(&mut quotes, sizes);
+        let mut quotes = ArrayVec::new();
+        for (place, size) in sizes.iter().enumerate() {
+            quotes.push(Quote {
+                place: place as u32,
+                size: *size as u32,
+            });
+        }
         LegSide {
             price: price as u32,
             quotes,
-            count: sizes.len(),
         }
     }
 
@@ -56,7 +66,7 @@ impl LegSide {
         ensures value { result ≡ sum (side_held self.now).quotes }
         ensures bound { result ≤ 1000000 }
     {
-        ops::total(&self.quotes[0..self.count])
+        self.quotes.iter().map(|quote| quote.size).sum()
     }
 
     // Takes an amount by the share-out.
@@ -64,7 +74,10 @@ impl LegSide {
         requires { amount ≤ sum (side_held self.old).quotes }
         ensures { side_held self.new ≡ taken_side amount (side_held self.old) }
     {
-        let count = self.count;
-        ops::serve(&mut self.quotes[0..count], amount);
+        // A table on the stack, lent to the share-out, so that nothing is allocated.
+        let mut out = [0u32; MOST_QUOTES];
+        let parts = &mut out[..self.quotes.len()];
+        share_out(amount, &self.quotes, parts).unwrap();
+        lower(&mut self.quotes, parts);
     }
 }

@@ -1,16 +1,19 @@
 // The implied orders.
-ghost use Rattle.std.specs.Prelude.{◌≡◌, ℕ, ◌≤◌, false, List, is_ok};
-ghost use Rattle.market.specs.Lists.{up_to};
-ghost use Rattle.legs.specs.Model.{net_price, net_size, implied, listed, taken_answer, taken_legs, taken_at};
+ghost use Rattle.std.specs.Prelude.{◌≡◌, ◌≤◌, false, List, map, is_ok, ℤ, ◌≤ℤ◌};
+ghost use Rattle.std.specs.List.{AllByRecursion};
+ghost use Rattle.market.specs.Limits.{lowest_price, highest_price, most_size};
+ghost use Rattle.legs.specs.Model.{net_price, net_size, leg_size, taken_leg, implied, listed, taken_answer, taken_legs, taken_at};
 ghost use Rattle.legs.specs.Quoting.{quote_answer, after_quote};
 ghost use Rattle.legs.specs.Making.{new_answer};
+ghost use Rattle.legs.specs.Legs.{leg_held};
 ghost use Rattle.legs.specs.Held.{legs_held, answer_held};
-ghost use Rattle.std.proofs.Common.{rules, arith};
+ghost use Rattle.std.proofs.Common.{rules};
 
 use super::super::fields::{parts_ok, quote_ok};
 use super::super::leg::LegQuotes;
 use super::super::legside::LegSide;
-use super::{LegsMarket, MOST_LEGS, sums};
+use super::LegsMarket;
+use arrayvec::ArrayVec;
 use market::depth::{Depth, Pool};
 use market::entry::Entry;
 use market::names::{Class, Edge, Leg, Side};
@@ -19,11 +22,14 @@ use market::refusal::Refusal;
 // The implied buy and the implied sell.
 const IMPLIED_ORDERS: usize = 2;
 
-// Whether n orders can be taken of so many.
-fn can_take(n: u32, size: u32) -> bool
-    ensures { result ≡ up_to size n }
+// Takes the contracts of n implied orders from every leg.
+fn take_each(legs: &mut [LegQuotes], side: Side, n: u32)
+    requires { AllByRecursion (λ l. n ≤ leg_size side l) (map leg_held legs.old) }
+    ensures { map leg_held legs.new ≡ map (taken_leg side n) (map leg_held legs.old) }
 {
-    1 <= n && n <= size
+    for leg in legs.iter_mut() {
+        leg.take(side, n);
+    }
 }
 
 impl LegsMarket {
@@ -35,12 +41,32 @@ impl LegsMarket {
         if !parts_ok(parts) {
             return Err(Refusal::OutOfLimits);
         }
-        let mut legs = [LegQuotes::new(Side::Buy, 1); MOST_LEGS];
-        sums::set_up(&mut legs, parts);
-        Ok(LegsMarket {
-            legs,
-            count: parts.len(),
-        })
+        let mut legs = ArrayVec::new();
+        for part in parts {
+            legs.push(LegQuotes::new(part.side, part.ratio));
+        }
+        Ok(LegsMarket { legs })
+    }
+
+    // The price of an implied order.
+    fn price(&self, side: Side) -> i32
+        ensures value { result ≡ net_price side (legs_held self.now) }
+        ensures low { lowest_price ≤ℤ result }
+        ensures high { result ≤ℤ highest_price }
+    {
+        self.legs.iter().map(|leg| leg.price(side)).sum()
+    }
+
+    // How many implied orders every leg has contracts for.
+    fn size(&self, side: Side) -> u32
+        ensures value { result ≡ net_size side (legs_held self.now) }
+        ensures few { result ≤ most_size }
+    {
+        self.legs
+            .iter()
+            .map(|leg| leg.size(side))
+            .min()
+            .unwrap_or(0)
     }
 
     // The implied order of a side.
@@ -49,11 +75,10 @@ impl LegsMarket {
         ensures price { result.price ≡ net_price side (legs_held self.now) }
         ensures size { result.size ≡ net_size side (legs_held self.now) }
     {
-        let legs = &self.legs[0..self.count];
         Entry {
             side,
-            price: sums::price(legs, side),
-            size: sums::size(legs, side),
+            price: self.price(side),
+            size: self.size(side),
             class: Class::Other,
         }
     }
@@ -63,14 +88,12 @@ impl LegsMarket {
         ensures answer { result ≡ quote_answer (legs_held self.old) leg price sizes.now }
         ensures after { legs_held self.new ≡ after_quote (legs_held self.old) leg edge price sizes.now }
     {
-        if !quote_ok(self.count, leg, price, sizes) {
+        if !quote_ok(self.legs.len(), leg, price, sizes) {
             return Err(Refusal::OutOfLimits);
         }
         let side = LegSide::quoted(price, sizes);
         let i = leg as usize - 1;
-        let mut new = self.legs[i];
-        new.replace(edge, side);
-        self.legs[i] = new;
+        self.legs[i].replace(edge, side);
         Ok(())
     }
 
@@ -80,12 +103,10 @@ impl LegsMarket {
         ensures after { legs_held self.new ≡ taken_legs side n (legs_held self.old) }
         ensures same { is_ok result ≡ false → self.new ≡ self.old }
     {
-        let count = self.count;
-        let size = sums::size(&self.legs[0..count], side);
-        if !can_take(n, size) {
+        if !(1..=self.size(side)).contains(&n) {
             return Err(Refusal::NotTakable);
         }
-        sums::take(&mut self.legs[0..count], side, n);
+        take_each(&mut self.legs, side, n);
         Ok(())
     }
 }

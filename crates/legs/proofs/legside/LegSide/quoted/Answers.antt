@@ -1,0 +1,33 @@
+use Rattle.std.proofs.Common.{get_or, pos, refl, rules, arith, w64, SFits, true, ◌≡◌}
+use Rattle.std.proofs.lemmas.Bool.Decides.{nat_tests}
+use Rattle.market.specs.Lists.{all_of}
+use Rattle.market.proofs.Narrow.{narrow, cast_abs}
+use Rattle.market.proofs.Tested.{each_ok}
+use Rattle.legs.specs.Limits.{most_quoted, highest_quote}
+use Rattle.legs.specs.Fields.{size_ok}
+use Rattle.legs.proofs.Sided.{quoting_more, quoted_long, quoted_line}
+use Rattle.legs.proofs.legside.LegSide.quoted.Goals as goal
+
+pub loop-place-preserved : goal.loop-place-preserved
+loop-place-preserved c =
+    let zs = c.args.sizes.now in
+    let i = c.loop-place.place in
+    let z = get_or zs i (pos 0) in
+    let f : SFits w64 z = search rules in
+    let each : all_of size_ok zs ≡ true = grind (arith, nat_tests) in
+    let ok = each_ok size_ok zs i (pos 0) each c.loop-place-test.true in
+    quoting_more _ _ _ _ _ c.loop-place.invariant c.loop-place-test.true c.push.ensures.items refl (cast_abs 1 most_quoted z f ok)
+
+pub invariant_of-result : goal.invariant_of-result
+invariant_of-result c =
+    let z = c.args.price in
+    let f : SFits w64 z = search rules in
+    let k = narrow 1 highest_quote z c.requires.price in
+    let e = cast_abs 1 highest_quote z f c.requires.price in
+    let long = quoted_long _ _ _ c.loop-place.invariant in
+    record {
+      low = omega arith;
+      high = omega arith;
+      few = grind (arith, nat_tests);
+      line = quoted_line _ _ _ c.loop-place.invariant;
+    }

@@ -1,0 +1,7 @@
+use Rattle.std.proofs.Common.{◌≡◌, map, take}
+use Rattle.legs.specs.Legs.{leg_held}
+use Rattle.legs.specs.Making.{part_leg}
+use Rattle.legs.proofs.pool.LegsMarket.new.Given as goal
+
+abbrev pub invariant-loop-part : goal.invariant-loop-part
+invariant-loop-part l = map leg_held l.legs.items ≡ map part_leg (take l.part-index l.parts)
