@@ -68,7 +68,7 @@ module _ (bound : Option ℤ) where
 
   -- no line below the bound is above the best
   covers : (best : Option ℤ) (ls : List Interest) (i : ℕ) (l : Interest) → slice_get ls i ≡ Some l → under bound l.gain ≡ true → over (best_under bound best ls) l.gain ≡ false
-  covers best [] i l e u = absurd (let z : ◌≡◌ {A = ℕ} 0 1 = cc in let y : ⊥ = omega arith in y)
+  covers best [] i l e u = cc
   covers best (x ∷ ls) zero l e u =
       let s : x ≡ l = cc in
       let s' : x.gain ≡ l.gain = ap (λ (y : Interest). y.gain) s in
@@ -90,7 +90,7 @@ module _ (bound : Option ℤ) where
   best_is_under ls v e = go (best_under bound None ls) e (held None ls tt)
     where
       go : (o : Option ℤ) → Some v ≡ o → Held o → under bound v ≡ true
-      go None e h = absurd (let z : ◌≡◌ {A = ℕ} 0 1 = cc in let y : ⊥ = omega arith in y)
+      go None e h = cc
       go (Some w) e h = let s : v ≡ w = cc in ap (under bound) s ∙ h
 
 -- how far down a bound is

@@ -22,8 +22,8 @@ module _ (v : ℤ) where
       elim (other_at v l) as (λ b. length (cond b (l.size ∷ later) later) ≡ cond b 1 0 + length later) [ true ↦ omega arith | false ↦ omega arith ]
 
   before_less : (ls : List Interest) (i j : ℕ) (l : Interest) → slice_get ls i ≡ Some l → other_at v l ≡ true → i < j → before ls i < before ls j
-  before_less [] i j l e t h = absurd (let z : ◌≡◌ {A = ℕ} 0 1 = cc in let y : ⊥ = omega arith in y)
-  before_less (x ∷ ls) i zero l e t h = absurd (let z : ⊥ = omega arith in z)
+  before_less [] i j l e t h = cc
+  before_less (x ∷ ls) i zero l e t h = absurd (omega arith)
   before_less (x ∷ ls) zero (suc j) l e t h =
       let s : x ≡ l = cc in
       omega (arith, before_cons x ls j, cond-true {A = ℕ} (other_at v x) 1 0 (ap (other_at v) s ∙ t))
@@ -50,7 +50,7 @@ module _ (v : ℤ) where
     here pass s = (0, x, omega (arith, ap (λ (u : Turn). u.place) s), refl, pass, refl)
 
   turn_stands : (ls : List Interest) (n k : ℕ) (t : Turn) → slice_get (turns_from v n ls) k ≡ Some t → Stands ls n k t
-  turn_stands [] n k t e = absurd (let z : ◌≡◌ {A = ℕ} 0 1 = cc in let y : ⊥ = omega arith in y)
+  turn_stands [] n k t e = cc
   turn_stands (x ∷ ls) n zero t e =
       ⊎_elim
       (λ pass. let q = at_yes x ls n t 0 pass e in here x ls n t pass (let s : turn n x ≡ t = cc in s))
@@ -78,7 +78,7 @@ module _ (v : ℤ) where
       pub turn_within : t.place < length ls
       turn_within =
           let w = turn_stands ls 0 k t e in
-          ⊎_elim (λ lt. omega (arith, w.2)) (λ le. let n = slice_get_past ls w.0 le in absurd (let z : ◌≡◌ {A = ℕ} 0 1 = cc in let y : ⊥ = omega arith in y)) (cases_lt w.0 (length ls))
+          ⊎_elim (λ lt. omega (arith, w.2)) (λ le. let n = slice_get_past ls w.0 le in cc) (cases_lt w.0 (length ls))
 
       -- the place has its part
       the_place : (i : ℕ) (l : Interest) → slice_get ls i ≡ Some l → i ≡ t.place → (other_at v l ≡ true) × (before ls i ≡ k)

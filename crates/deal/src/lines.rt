@@ -23,12 +23,13 @@ pub(crate) struct Lines<'a> {
 impl<'a> Model for Lines<'a> {
     ghost use Rattle.std.specs.Prelude.{List, length, ◌≤◌};
     ghost use Rattle.filling.specs.declared.interest.Interest.{Interest};
+    ghost use Rattle.deal.specs.Answers.{most_lines};
 
     ghost Value = { List Interest };
 
     ghost view = { λ s. s.lines.now };
 
-    ghost invariant = { λ s. length s.lines.now ≤ 128 };
+    ghost invariant = { λ s. length s.lines.now ≤ most_lines };
 }
 
 // Whether a line is a Priority Customer's at a level.

@@ -31,7 +31,7 @@ all_pass p (l ∷ ls) h = omega (arith, contracts_cons p l ls, contracts_cons (�
 
 pub all_filled : (p : Interest → Bool) (ls : List Interest) (fs : List ℕ) → length fs ≡ length ls → AllByRecursion (λ l. p l ≡ true) ls → filled p ls fs ≡ sum fs
 all_filled p [] [] e h = refl
-all_filled p [] (f ∷ fs) e h = absurd (let z : ⊥ = omega arith in z)
+all_filled p [] (f ∷ fs) e h = absurd (omega arith)
 all_filled p (l ∷ ls) [] e h = refl
 all_filled p (l ∷ ls) (f ∷ fs) e h = omega (arith, cond-true (p l) f 0 h.0, sum_cons f fs, all_filled p ls fs (omega arith) h.1)
 

@@ -63,7 +63,7 @@ zeros_at (l ∷ ls) zero = refl
 zeros_at (l ∷ ls) (suc i) = zeros_at ls i
 
 pub none_such : (p : Interest → Bool) (ls : List Interest) → some p ls ≡ false → (i : ℕ) (l : Interest) → slice_get ls i ≡ Some l → p l ≡ false
-none_such p [] h i l e = absurd (let z : ◌≡◌ {A = ℕ} 0 1 = cc in let y : ⊥ = omega arith in y)
+none_such p [] h i l e = cc
 none_such p (x ∷ ls) h zero l e = let s : x ≡ l = cc in ap p (sym s) ∙ (or_parts (p x) (some p ls) h).0
 none_such p (x ∷ ls) h (suc i) l e = none_such p ls (or_parts (p x) (some p ls) h).1 i l e
 
@@ -133,7 +133,7 @@ module _ (Z : ℕ) (g : ℤ) (ls : List Interest) where
 
   -- each line at which as many execute
   covers : (b : ℤ) (xs : List Interest) (i : ℕ) (l : Interest) → slice_get xs i ≡ Some l → executing Z ls l.gain ≡ executing Z ls g → l.gain ≤ℤ best_from Z g ls b xs
-  covers b [] i l e h = absurd (let z : ◌≡◌ {A = ℕ} 0 1 = cc in let y : ⊥ = omega arith in y)
+  covers b [] i l e h = cc
   covers b (x ∷ xs) zero l e h =
       let c : ℤ = cond (lt_z b x.gain && eqb (executing Z ls x.gain) (executing Z ls g)) x.gain b in
       let r = best_rises c xs in
@@ -201,7 +201,7 @@ module _ (Z : ℕ) (g : ℤ) (ls : List Interest) where
       (λ many.
       let q : executing Z ls l.gain ≡ executing Z ls g = omega (arith, at_least_down g l.gain ls up) in
       let c = covers Z g ls g ls w.0 l w.2 q in
-      absurd (let z : ⊥ = omega (arith, ints) in z))
+      absurd (omega (arith, ints)))
       (cases_lt (executing Z ls l.gain) (executing Z ls g)))
       (lowest v ls)
 
@@ -211,7 +211,7 @@ module _ (Z : ℕ) (g : ℤ) (ls : List Interest) where
   paid : (i : ℕ) (l : Interest) → slice_get ls i ≡ Some l → 0 < get_or (fill_down (executing Z ls g) ls) i 0 → p ≤ℤ l.gain
   paid i l e h =
       by_lt_z l.gain p
-      (λ lt. absurd (let z : ⊥ = omega (arith, none_under (executing Z ls g) p ls (omega (arith, as_many)) i l e lt) in z))
+      (λ lt. absurd (omega (arith, none_under (executing Z ls g) p ls (omega (arith, as_many)) i l e lt)))
       (λ ge. ge)
 
   block_fair : Settles Z g ls (blocked Z g ls)

@@ -1,7 +1,5 @@
-use Rattle.std.proofs.Common.{◌+◌, ◌<◌, ◌≤◌, length, get_or, drop, sym, ap, ◌∙◌, subst, subst₂, w32, SFits, to_z, of_z, rules}
+use Rattle.std.proofs.Common.{◌+◌, ◌<◌, length, get_or, drop, sym, ap, ◌∙◌, subst, subst₂, w32, SFits, to_z, of_z, rules}
 use Rattle.std.proofs.lemmas.Int.{to_z-of_z}
-use Rattle.std.proofs.lemmas.List.{at_drop_all}
-use Rattle.filling.specs.Mechanisms.{best_from, block_gain}
 use Rattle.deal.proofs.Climbing.{Climbs, climb_up, climb_cap, climb_on}
 use Rattle.deal.proofs.lines.Lines.climb.Goals as goal
 use Rattle.deal.proofs.lines.Lines.climb.Goals.{then-between+then-executing_at-as_many, then-between+else-executing_at-as_many, else-between}
@@ -33,11 +31,3 @@ loop-line-preserved c =
           subst₂ (λ b o. Climbs Z g ls b o (drop (i + 1) ls)) (sym w.best-is) (sym w.ceiling-is)
           (climb_on Z g ls i x h at v _ e c.loop-line.ceiling c.loop-line.invariant (sym t ∙ w.if-between.false))
     ]
-
-pub returns : goal.returns
-returns c =
-    let Z = c.args.size in
-    let g = to_z w32 (of_z w32 c.args.gain) in
-    let ls = c.args.self.now in
-    sym (c.loop-line.invariant.0 ∙ at_drop_all (best_from Z g ls _) ls c.loop-line.line-index (subst (λ zs. length zs ≤ c.loop-line.line-index) c.self.view_is c.loop-line-test.false)) ∙
-    ap (λ h. block_gain Z h ls) (to_z-of_z w32 c.args.gain c.ranges.gain)

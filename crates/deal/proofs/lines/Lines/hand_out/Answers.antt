@@ -5,12 +5,9 @@ use Rattle.std.proofs.lemmas.List.{length_push}
 use Rattle.std.proofs.lemmas.Option.{slice_get-get_or}
 use Rattle.std.proofs.lemmas.Slice.Zip.{zip_turn, zip_end}
 use Rattle.deal.specs.Levels.{turns_from}
-use Rattle.deal.proofs.Handing.{Handed, HandedAll, handed_none, turn_within, handed_more, handed_all}
+use Rattle.deal.proofs.Handing.{Handed, HandedAll, turn_within, handed_more, handed_all}
 use Rattle.deal.proofs.lines.Lines.hand_out.Goals as goal
 use Rattle.deal.proofs.lines.Lines.hand_out.Goals.{In-Some}
-
-pub loop-turn-init : goal.loop-turn-init
-loop-turn-init c = handed_none _ _ _ _
 
 -- the turn and its part, by how many are done
 next : (c : In-Some) →
