@@ -1,21 +1,12 @@
 -- The loops over lines, one line on.
-use Rattle.std.proofs.Common.{◌≡◌, ℕ, ◌+◌, ◌*◌, ◌<◌, ◌≤◌, Bool, true, false, cond, List, [], ◌∷◌, ◌++◌, length, get_or, take, drop, Some, sym, ap, ◌∙◌, arith}
+use Rattle.std.proofs.Common.{◌≡◌, ℕ, ◌+◌, ◌<◌, Bool, true, false, cond, List, [], ◌∷◌, ◌++◌, length, get_or, take, drop, Some, sym, ap, ◌∙◌, arith}
 use Rattle.std.proofs.lemmas.List.{take_more, drop_more}
 use Rattle.std.specs.List.{slice_get}
 use Rattle.std.proofs.lemmas.Option.{slice_get-get_or}
 use Rattle.std.proofs.lemmas.Bool.{cond-true, cond-false}
 use Rattle.filling.specs.declared.interest.Interest.{Interest}
-use Rattle.filling.specs.Totals.{sizes, contracts}
-use Rattle.filling.proofs.Counting.{contracts_cons, contracts_push, count_push}
-use Rattle.filling.proofs.Places.{place_here}
-
--- what so many lines can come to
-pub few : (p : Interest → Bool) (ls : List Interest) → contracts p ls ≤ length ls * 1000000
-few p [] = omega arith
-few p (l ∷ ls) =
-    let k = l.few in
-    let s : cond (p l) l.size 0 ≤ l.size = elim (p l) as (λ b. cond b l.size 0 ≤ l.size) [ true ↦ omega arith | false ↦ omega arith ] in
-    omega (arith, contracts_cons p l ls, few p ls)
+use Rattle.filling.specs.Totals.{contracts}
+use Rattle.filling.proofs.Counting.{contracts_push}
 
 -- the line x stands at the place i
 module _ (ls : List Interest) (i : ℕ) (x : Interest) (h : i < length ls) (at : x ≡ get_or ls i x) where
@@ -37,12 +28,3 @@ module _ (ls : List Interest) (i : ℕ) (x : Interest) (h : i < length ls) (at :
 
     pub total_no : (n : ℕ) → p x ≡ false → n ≡ contracts p (take i ls) → n ≡ contracts p (take (i + 1) ls)
     total_no n t e = omega (arith, total_more, cond-false (p x) x.size 0 t)
-
-    pub count_more : length (sizes p (take (i + 1) ls)) ≡ length (sizes p (take i ls)) + cond (p x) 1 0
-    count_more = ap (λ zs. length (sizes p zs)) front ∙ count_push p (take i ls) x
-
-    pub count_here : p x ≡ true → length (sizes p (take i ls)) < length (sizes p ls)
-    count_here t = place_here (λ _. 0) (λ _. 0) ls i x stands p t
-
-    pub within_parts : p x ≡ true → (parts n : ℕ) → parts ≡ length (sizes p ls) → n ≡ length (sizes p (take i ls)) → n < parts
-    within_parts t parts n long e = omega (arith, count_here t)

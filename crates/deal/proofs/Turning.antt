@@ -1,13 +1,11 @@
 -- The others of a level, gathered to share out.
-use Rattle.std.proofs.Common.{◌≡◌, ℕ, ◌+◌, ◌<◌, ◌≤◌, true, false, cond, leb, List, [], ◌∷◌, ◌++◌, map, length, get_or, drop, ℤ, sym, refl, ap, ◌∙◌, append_assoc, append-nil, arith}
-use Rattle.std.proofs.lemmas.List.{at_drop_all}
-use Rattle.std.proofs.lemmas.Bool.{and_from, le-leb, cond-true, cond-false}
+use Rattle.std.proofs.Common.{◌≡◌, ℕ, ◌+◌, ◌≤◌, true, false, cond, leb, List, [], ◌∷◌, map, ℤ, refl, ap, arith}
+use Rattle.std.proofs.lemmas.Bool.{and_from, le-leb}
 use Rattle.share.specs.Shares.{rises_from}
 use Rattle.filling.specs.declared.interest.Interest.{Interest}
 use Rattle.filling.specs.Totals.{other_at, sizes}
 use Rattle.deal.specs.declared.turns.Turn.{Turn}
 use Rattle.deal.specs.Levels.{turns_from}
-use Rattle.deal.proofs.Steps.{back}
 
 abbrev pub turn : ℕ → Interest → Turn
 turn n l = record { place = n; size = l.size }
@@ -28,22 +26,3 @@ turns_rise v low n (l ∷ ls) h =
       | true ↦ and_from (leb low n) (rises_from (n + 1) (map (λ t. t.place) ts)) (le-leb low n h) (turns_rise v (n + 1) (n + 1) ls (omega arith))
       | false ↦ turns_rise v low (n + 1) ls (omega arith)
     ]
-
-module _ (v : ℤ) (ls : List Interest) (ts all : List Turn) (i : ℕ) (inv : ts ++ turns_from v i (drop i ls) ≡ all) where
-  pub gathered : length ls ≤ i → ts ≡ all
-  gathered h = sym (append-nil ts) ∙ ap (λ zs. ts ++ zs) (sym (at_drop_all (turns_from v i) ls i h)) ∙ inv
-
-  module _ (x : Interest) (h : i < length ls) (at : x ≡ get_or ls i x) where
-    abbrev rest : List Turn
-    rest = turns_from v (i + 1) (drop (i + 1) ls)
-
-    here : turns_from v i (drop i ls) ≡ cond (other_at v x) (turn i x ∷ rest) rest
-    here = ap (turns_from v i) (back ls i x h at)
-
-    pub gather_yes : other_at v x ≡ true → (ts ++ turn i x ∷ []) ++ rest ≡ all
-    gather_yes t =
-        append_assoc ts (turn i x ∷ []) rest ∙
-        ap (λ zs. ts ++ zs) (sym (here ∙ cond-true (other_at v x) (turn i x ∷ rest) rest t)) ∙ inv
-
-    pub gather_no : other_at v x ≡ false → ts ++ rest ≡ all
-    gather_no t = ap (λ zs. ts ++ zs) (sym (here ∙ cond-false (other_at v x) (turn i x ∷ rest) rest t)) ∙ inv

@@ -11,15 +11,14 @@ use Rattle.filling.specs.Totals.{better, contracts}
 use Rattle.filling.specs.Filling.{reaching, left_over, fill_down}
 use Rattle.filling.specs.Mechanisms.{Outcome, executed, at_least, customer_from, pooled_over, some, nothing, solicited, executing, best_from, block_gain, blocked}
 use Rattle.filling.specs.Rules.{Fair, Settles, AllOrNone, Solicitation, Block}
-use Rattle.filling.proofs.Counting.{contracts_cons}
+use Rattle.filling.proofs.Counting.{contracts_same}
 use Rattle.filling.proofs.Ladder.{dealt_long, none_pass, fill_down_total}
 use Rattle.filling.proofs.Places.{none_here, dealt_in_line}
-use Rattle.filling.proofs.Down.{fill_down_within, fill_down_customers}
+use Rattle.filling.proofs.Down.{contracts_under, fill_down_within, fill_down_customers}
 
 -- a test that another follows from
 pub contracts_mono : (p q : Interest → Bool) → ((l : Interest) (x : ℕ) → cond (q l) x 0 ≤ cond (p l) x 0) → (ls : List Interest) → contracts q ls ≤ contracts p ls
-contracts_mono p q s [] = omega arith
-contracts_mono p q s (l ∷ ls) = omega (arith, contracts_cons p l ls, contracts_cons q l ls, s l l.size, contracts_mono p q s ls)
+contracts_mono p q s ls = omega (arith, contracts_under p q (λ _. false) (λ l x. omega (arith, s l x)) ls)
 
 pub at_least_all : (g : ℤ) (ls : List Interest) → contracts (at_least g) ls ≤ contracts (λ _. true) ls
 at_least_all g ls = contracts_mono (λ _. true) (at_least g) (λ l x. grind (arith, ints)) ls
@@ -146,10 +145,6 @@ module _ (Z : ℕ) (g : ℤ) (ls : List Interest) where
       (λ t. ⊎_elim (λ n. grind (arith, ints)) (λ n. absurd (both_ways _ n q)) (and_cases (lt_z b x.gain) (eqb (executing Z ls x.gain) (executing Z ls g)) t)) in
       omega (arith, ints)
   covers b (x ∷ xs) (suc i) l e h = covers (cond (lt_z b x.gain && eqb (executing Z ls x.gain) (executing Z ls g)) x.gain b) xs i l e h
-
-contracts_same : (p q : Interest → Bool) (ls : List Interest) → AllByRecursion (λ l. p l ≡ q l) ls → contracts p ls ≡ contracts q ls
-contracts_same p q [] h = refl
-contracts_same p q (l ∷ ls) h = omega (arith, contracts_cons p l ls, contracts_cons q l ls, ap (λ b. cond b l.size 0) h.0, contracts_same p q ls h.1)
 
 tests_same : (v g m : ℤ) → v ≤ℤ g → (v ≤ℤ m → g ≤ℤ m) → le_z g m ≡ le_z v m
 tests_same v g m h f = by_lt_z m v (λ lt. grind (arith, ints)) (λ le. let k = f le in grind (arith, ints))
