@@ -14,6 +14,8 @@ use super::turns::Turn;
 use arrayvec::ArrayVec;
 use share::share_out;
 
+// By hand: the counts stand beside the lines as a lent table; a struct of both would have to say in each method that it
+// still holds the caller's table, a clause for each that it spares.
 impl<'a> Lines<'a> {
     // The others of a level, in line.
     fn turns_at(&self, level: i32) -> ArrayVec<Turn, MOST_LINES>
@@ -37,6 +39,7 @@ impl<'a> Lines<'a> {
         ensures { (i : ℕ) (l : Interest) → slice_get self.now i ≡ Some l → slice_index out.new i ≡ (if customer_at level l then min l.size (room - contracts (customer_at level) (take i self.now)) else slice_index out.old i) }
     {
         let mut left = room;
+        // By hand, and not zipped with `out.iter_mut()`: after that loop a proof knows none of the counts.
         for (i, line) in self.lines.iter().enumerate() {
             if is_customer_at(line, level) {
                 let part = line.size.min(left);

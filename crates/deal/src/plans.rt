@@ -40,7 +40,8 @@ impl<'a> Lines<'a> {
     }
 }
 
-// An amount filled down, or an order with contracts reserved at its own gain.
+// An amount filled down, or an order with contracts reserved at its own gain. An enum, and no trait: two structs with two
+// methods each would say no more.
 #[derive(Clone, Copy)]
 pub(crate) enum Plan {
     Down(u32),
