@@ -115,9 +115,6 @@ Served plan ls out bound = (i : ℕ) (l : Interest) → slice_get ls i ≡ Some 
 abbrev pub LevelServed : Plan → List Interest → ℤ → List ℕ → List ℕ → Type 0
 LevelServed plan ls v old out = (i : ℕ) (l : Interest) → slice_get ls i ≡ Some l → get_or out i 0 ≡ cond (level v l) (get_or (planned plan ls) i 0) (get_or old i 0)
 
-pub none_served : (plan : Plan) (ls : List Interest) (out : List ℕ) → Served plan ls out None
-none_served plan ls out i l e h = absurd (both_ways true h refl)
-
 pub level_more : (plan : Plan) (ls : List Interest) (old out : List ℕ) (bound : Option ℤ) (v : ℤ) → Some v ≡ best_under bound None ls →
     LevelServed plan ls v old out → Served plan ls old bound → Served plan ls out (Some v)
 level_more plan ls old out bound v b s inv i l e h =

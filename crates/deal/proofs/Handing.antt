@@ -71,9 +71,6 @@ module _ (v : ℤ) where
     abbrev pub HandedAll : List ℕ → Type 0
     HandedAll out = (i : ℕ) (l : Interest) → slice_get ls i ≡ Some l → get_or out i 0 ≡ cond (other_at v l) (get_or parts (before ls i) 0) (get_or old i 0)
 
-    pub handed_none : Handed 0 old
-    handed_none i l e = grind arith
-
     module _ (k : ℕ) (t : Turn) (e : slice_get (turns_from v 0 ls) k ≡ Some t) where
       pub turn_within : t.place < length ls
       turn_within =
