@@ -7,7 +7,7 @@ pub const MOST_LINES: usize = 128;
 
 // How an order is crossed: its contracts, what it gains at its own price, and the contracts that are reserved for the
 // facilitator.
-#[derive(Clone, Copy)]
+#[derive(Clone, Copy, PartialEq, Eq)]
 pub struct Terms {
     pub mechanism: Mechanism,
     pub size: u32,
