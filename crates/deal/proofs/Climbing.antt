@@ -1,8 +1,8 @@
 -- The best gain of a block, a line on.
-use Rattle.std.proofs.Common.{◌≡◌, ℕ, ◌+◌, ◌<◌, ◌≤◌, Bool, true, false, cond, ◌&&◌, eqb, List, length, get_or, drop, ℤ, ◌≤ℤ◌, Some, None, Option, sym, refl, ap, ◌∙◌, ⊎_elim, arith}
+use Rattle.std.proofs.Common.{◌≡◌, ℕ, ◌+◌, ◌<◌, ◌≤◌, Bool, true, false, cond, ◌&&◌, eqb, List, length, get_or, drop, ℤ, ◌≤ℤ◌, Some, Option, sym, ap, ◌∙◌, ⊎_elim, arith}
 use lib.Signed.{lt_z}
 use Rattle.std.proofs.lemmas.Int.{ints}
-use Rattle.std.proofs.lemmas.Bool.{cond-true, cond-false, and_parts, and_cases, and_from, and_left, and_right, eq-eqb, ne_eqb, both_ways}
+use Rattle.std.proofs.lemmas.Bool.{cond-true, cond-false, and_parts, and_cases, and_from, and_left, and_right, eq-eqb, ne_eqb}
 use Rattle.filling.specs.declared.interest.Interest.{Interest}
 use Rattle.filling.specs.Mechanisms.{executing, best_from, block_gain}
 use Rattle.filling.proofs.Other.{at_least_down}
@@ -17,9 +17,6 @@ module _ (Z : ℕ) (g : ℤ) (ls : List Interest) where
   -- what is left of the lines raises the best so far to the block's gain
   abbrev pub Climbs : ℤ → Option ℤ → List Interest → Type 0
   Climbs b ceiling xs = (block_gain Z g ls ≡ best_from Z g ls b xs) × (g ≤ℤ b) × Capped ceiling
-
-  pub climb_none : Climbs g None ls
-  climb_none = (refl, omega (arith, ints), λ w h. absurd (both_ways true h refl))
 
   fewer : (v w : ℤ) → v ≤ℤ w → executing Z ls w ≤ executing Z ls v
   fewer v w h = omega (arith, at_least_down v w ls h)

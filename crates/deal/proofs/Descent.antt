@@ -1,7 +1,8 @@
 -- Levels from the best one down.
-use Rattle.std.proofs.Common.{◌≡◌, ℕ, zero, suc, ◌+◌, ◌-◌, ◌^◌, ◌<◌, true, false, cond, not, ◌&&◌, List, [], ◌∷◌, length, get_or, drop, ℤ, pos, negsuc, Some, None, Option, sym, refl, ap, ◌∙◌, ⊎_elim, arith, w32, SFits}
+use Rattle.std.proofs.Common.{◌≡◌, ℕ, zero, suc, ◌+◌, ◌-◌, ◌^◌, ◌<◌, true, false, cond, not, ◌&&◌, List, [], ◌∷◌, length, get_or, map, ℤ, int_lt, pos, negsuc, Some, None, Option, sym, refl, ap, ◌∙◌, ⊎_elim, arith, w32, SFits}
 use lib.Signed.{lt_z, le_z}
-use Rattle.std.specs.List.{slice_get}
+use Rattle.std.specs.List.{slice_get, filter, fold, reduce}
+use Rattle.std.specs.Ordering.{int_cmp, max_by_ordering}
 use Rattle.std.proofs.lemmas.Option.{slice_get-get_or}
 use Rattle.std.proofs.lemmas.List.{ext_get_or}
 use Rattle.std.proofs.lemmas.Int.{ints}
@@ -14,16 +15,36 @@ use Rattle.filling.proofs.Places.{customer_gets, other_gets}
 use Rattle.deal.specs.declared.plans.Plan.{Plan}
 use Rattle.deal.specs.Plans.{room_of, pot_of, planned}
 use Rattle.deal.specs.Levels.{under, over, best_under}
-use Rattle.deal.proofs.Steps.{back}
 use Rattle.deal.proofs.Passes.{Passed, left_for, part_for}
 
 abbrev raise : Option ℤ → Option ℤ → ℤ → Option ℤ
 raise bound best g = cond (under bound g && over best g) (Some g) best
 
-pub best_more : (bound best next : Option ℤ) (ls : List Interest) (i : ℕ) (x : Interest) (g : ℤ) → i < length ls → x ≡ get_or ls i x → g ≡ x.gain →
-    next ≡ raise bound best g → best_under bound None ls ≡ best_under bound best (drop i ls) → best_under bound None ls ≡ best_under bound next (drop (i + 1) ls)
-best_more bound best next ls i x g h at e r inv =
-    inv ∙ ap (best_under bound best) (back ls i x h at) ∙ sym (ap (λ o. best_under bound o (drop (i + 1) ls)) (r ∙ ap (raise bound best) e))
+-- the greater, as `max` picks it
+abbrev pick : ℤ → ℤ → ℤ
+pick b g = max_by_ordering (int_cmp b g) b g
+
+picked : (b g : ℤ) → Some (pick b g) ≡ cond (int_lt b g) (Some g) (Some b)
+picked b g = grind (arith, ints)
+
+module _ (bound : Option ℤ) where
+  best_from : (b : ℤ) (ls : List Interest) → Some (fold pick b (filter (under bound) (map (λ l. l.gain) ls))) ≡ best_under bound (Some b) ls
+  best_from b [] = refl
+  best_from b (l ∷ ls) =
+      let later = filter (under bound) (map (λ m. m.gain) ls) in
+      elim (under bound l.gain) as (λ u. Some (fold pick b (cond u (l.gain ∷ later) later)) ≡ best_under bound (cond (u && int_lt b l.gain) (Some l.gain) (Some b)) ls) [
+        | true ↦ best_from (pick b l.gain) ls ∙ ap (λ o. best_under bound o ls) (picked b l.gain)
+        | false ↦ best_from b ls
+      ]
+
+  pub best_of : (ls : List Interest) → reduce pick (filter (under bound) (map (λ l. l.gain) ls)) ≡ best_under bound None ls
+  best_of [] = refl
+  best_of (l ∷ ls) =
+      let later = filter (under bound) (map (λ m. m.gain) ls) in
+      elim (under bound l.gain) as (λ u. reduce pick (cond u (l.gain ∷ later) later) ≡ best_under bound (cond (u && true) (Some l.gain) None) ls) [
+        | true ↦ best_from l.gain ls
+        | false ↦ best_of ls
+      ]
 
 not_over : (best : Option ℤ) (g x : ℤ) → over best g ≡ true → over best x ≡ false → lt_z g x ≡ false
 not_over None g x t h = absurd (both_ways true h refl)
@@ -47,7 +68,7 @@ module _ (bound : Option ℤ) where
 
   -- no line below the bound is above the best
   covers : (best : Option ℤ) (ls : List Interest) (i : ℕ) (l : Interest) → slice_get ls i ≡ Some l → under bound l.gain ≡ true → over (best_under bound best ls) l.gain ≡ false
-  covers best [] i l e u = absurd (let z : ◌≡◌ {A = ℕ} 0 1 = cc in let y : ⊥ = omega arith in y)
+  covers best [] i l e u = cc
   covers best (x ∷ ls) zero l e u =
       let s : x ≡ l = cc in
       let s' : x.gain ≡ l.gain = ap (λ (y : Interest). y.gain) s in
@@ -69,7 +90,7 @@ module _ (bound : Option ℤ) where
   best_is_under ls v e = go (best_under bound None ls) e (held None ls tt)
     where
       go : (o : Option ℤ) → Some v ≡ o → Held o → under bound v ≡ true
-      go None e h = absurd (let z : ◌≡◌ {A = ℕ} 0 1 = cc in let y : ⊥ = omega arith in y)
+      go None e h = cc
       go (Some w) e h = let s : v ≡ w = cc in ap (under bound) s ∙ h
 
 -- how far down a bound is
@@ -93,9 +114,6 @@ Served plan ls out bound = (i : ℕ) (l : Interest) → slice_get ls i ≡ Some 
 -- the lines of the level v have what they get, and the others what they had
 abbrev pub LevelServed : Plan → List Interest → ℤ → List ℕ → List ℕ → Type 0
 LevelServed plan ls v old out = (i : ℕ) (l : Interest) → slice_get ls i ≡ Some l → get_or out i 0 ≡ cond (level v l) (get_or (planned plan ls) i 0) (get_or old i 0)
-
-pub none_served : (plan : Plan) (ls : List Interest) (out : List ℕ) → Served plan ls out None
-none_served plan ls out i l e h = absurd (both_ways true h refl)
 
 pub level_more : (plan : Plan) (ls : List Interest) (old out : List ℕ) (bound : Option ℤ) (v : ℤ) → Some v ≡ best_under bound None ls →
     LevelServed plan ls v old out → Served plan ls old bound → Served plan ls out (Some v)

@@ -1,6 +1,8 @@
 pub mod Steps
+pub mod Testing
 pub mod Passes
 pub mod Turning
+pub mod Handing
 pub mod Descent
 pub mod Serving
 pub mod Climbing

@@ -22,7 +22,7 @@ module _ (p : Interest → Bool) (f : ℕ → Interest → ℕ) (ls : List Inter
   pass_all h q k x e =
       ⊎_elim
       (λ lt. q.1 k x e lt)
-      (λ le. let n = slice_get_past ls k (omega arith) in absurd (let z : ◌≡◌ {A = ℕ} 0 1 = cc in let y : ⊥ = omega arith in y))
+      (λ le. let n = slice_get_past ls k (omega arith) in cc)
       (cases_lt k i)
 
   module _ (x : Interest) (at : slice_get ls i ≡ Some x) (q : Passing p f ls old out i) where

@@ -1,5 +1,5 @@
 -- The others of a level as claims of the share-out.
-use Rattle.std.proofs.Common.{◌≡◌, ℕ, suc, ◌≤◌, Bool, true, false, cond, ◌&&◌, eqb, leb, List, [], ◌∷◌, map, length, ℤ, is_ok, Ok, Err, sum, Result, refl, ap, ◌∙◌, arith}
+use Rattle.std.proofs.Common.{◌≡◌, ℕ, ◌≤◌, Bool, true, false, cond, ◌&&◌, eqb, leb, List, [], ◌∷◌, map, length, ℤ, IsOk, Ok, Err, sum, Result, sym, refl, ap, ◌∙◌, subst, arith}
 use Rattle.std.proofs.lemmas.List.{length-map}
 use Rattle.std.proofs.lemmas.Bool.{and_from, le-leb, eq-eqb, cond-true}
 use Rattle.market.specs.Lists.{all_of}
@@ -12,12 +12,6 @@ use Rattle.deal.specs.declared.turns.Turn.{Turn}
 use Rattle.deal.specs.Levels.{turns_from}
 use Rattle.deal.proofs.Turning.{turn_sizes, turns_rise}
 
-pub no_more : (p : Interest → Bool) (ls : List Interest) → length (sizes p ls) ≤ length ls
-no_more p [] = omega arith
-no_more p (l ∷ ls) =
-    let ih = no_more p ls in
-    elim (p l) as (λ b. length (cond b (l.size ∷ sizes p ls) (sizes p ls)) ≤ suc (length ls)) [ true ↦ omega arith | false ↦ omega arith ]
-
 all_small : (p : Interest → Bool) (ls : List Interest) → all_of small (sizes p ls) ≡ true
 all_small p [] = refl
 all_small p (l ∷ ls) =
@@ -28,32 +22,31 @@ all_small p (l ∷ ls) =
       | false ↦ ih
     ]
 
-module _ (v : ℤ) (ls : List Interest) (ts : List Turn) (et : ts ≡ turns_from v 0 ls) (a : ℕ) (out : List ℕ) (few : length ls ≤ 128) (enough : a ≤ contracts (other_at v) ls)
+module _ (v : ℤ) (ls : List Interest) (ts : List Turn) (et : ts ≡ turns_from v 0 ls) (a : ℕ) (out : List ℕ) (few : length ts ≤ 128) (enough : a ≤ contracts (other_at v) ls)
     (long : length out ≡ length ts) where
   abbrev ss : List ℕ
-  ss = map (λ t. t.line.size) ts
+  ss = map (λ t. t.size) ts
 
   abbrev ps : List ℕ
   ps = map (λ t. t.place) ts
 
   same : ss ≡ sizes (other_at v) ls
-  same = ap (map (λ t. t.line.size)) et ∙ turn_sizes v 0 ls
+  same = ap (map (λ t. t.size)) et ∙ turn_sizes v 0 ls
 
   rising : rises_from 0 ps ≡ true
   rising = ap (λ zs. rises_from 0 (map (λ t. t.place) zs)) et ∙ turns_rise v 0 0 ls (omega arith)
 
   able : shareable a ss ps (length out) ≡ true
   able =
-      let m = length-map ts (λ t. t.line.size) in
-      let n = no_more (other_at v) ls in
+      let m = length-map ts (λ t. t.size) in
       let sm : all_of small ss ≡ true = ap (all_of small) same ∙ all_small (other_at v) ls in
       and_from (lawful ss ps) (leb a (sum ss) && eqb (length out) (length ss))
-      (and_from (leb (length ss) 128) (all_of small ss && rises_from 0 ps) (le-leb (length ss) 128 (omega (arith, ap length same))) (and_from (all_of small ss) (rises_from 0 ps) sm rising))
+      (and_from (leb (length ss) 128) (all_of small ss && rises_from 0 ps) (le-leb (length ss) 128 (omega arith)) (and_from (all_of small ss) (rises_from 0 ps) sm rising))
       (and_from (leb a (sum ss)) (eqb (length out) (length ss)) (le-leb a (sum ss) (omega (arith, ap sum same))) (eq-eqb (length out) (length ss) (omega arith)))
 
   -- the share-out of what the others want is never refused
-  pub served : (r : Result (Unit {0}) Refusal) (new : List ℕ) → r ≡ share_answer a ss ps (length out) → new ≡ after_share a ss ps out → (is_ok r ≡ true) × (new ≡ shares a (sizes (other_at v) ls))
+  pub served : (r : Result (Unit {0}) Refusal) (new : List ℕ) → r ≡ share_answer a ss ps (length out) → new ≡ after_share a ss ps out → IsOk r × (new ≡ shares a (sizes (other_at v) ls))
   served r new answer after = (
-    ap is_ok (answer ∙ cond-true (shareable a ss ps (length out)) (Ok tt) (Err OutOfLimits) able),
+    subst IsOk (sym (answer ∙ cond-true (shareable a ss ps (length out)) (Ok tt) (Err OutOfLimits) able)) refl,
     after ∙ cond-true (shareable a ss ps (length out)) (shares a ss) out able ∙ ap (shares a) same,
   )

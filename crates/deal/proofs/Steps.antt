@@ -1,23 +1,12 @@
 -- The loops over lines, one line on.
-use Rattle.std.proofs.Common.{◌≡◌, ℕ, ◌+◌, ◌*◌, ◌<◌, ◌≤◌, Bool, true, false, cond, ◌||◌, List, [], ◌∷◌, ◌++◌, length, get_or, take, drop, Some, sym, ap, ◌∙◌, arith}
-use Rattle.std.proofs.lemmas.List.{take_more, take_all, take-append-drop, drop_more, at_drop_all, length-map, ext_get_or}
+use Rattle.std.proofs.Common.{◌≡◌, ℕ, ◌+◌, ◌<◌, Bool, true, false, cond, List, [], ◌∷◌, ◌++◌, length, get_or, take, drop, Some, sym, ap, ◌∙◌, arith}
+use Rattle.std.proofs.lemmas.List.{take_more, drop_more}
 use Rattle.std.specs.List.{slice_get}
 use Rattle.std.proofs.lemmas.Option.{slice_get-get_or}
 use Rattle.std.proofs.lemmas.Bool.{cond-true, cond-false}
 use Rattle.filling.specs.declared.interest.Interest.{Interest}
-use Rattle.filling.specs.Totals.{sizes, contracts}
-use Rattle.filling.specs.Mechanisms.{some, nothing}
-use Rattle.filling.proofs.Counting.{contracts_cons, contracts_push, contracts_append, count_push}
-use Rattle.filling.proofs.Places.{place_here}
-use Rattle.filling.proofs.Other.{zeros_at}
-
--- what so many lines can come to
-pub few : (p : Interest → Bool) (ls : List Interest) → contracts p ls ≤ length ls * 1000000
-few p [] = omega arith
-few p (l ∷ ls) =
-    let k = l.few in
-    let s : cond (p l) l.size 0 ≤ l.size = elim (p l) as (λ b. cond b l.size 0 ≤ l.size) [ true ↦ omega arith | false ↦ omega arith ] in
-    omega (arith, contracts_cons p l ls, few p ls)
+use Rattle.filling.specs.Totals.{contracts}
+use Rattle.filling.proofs.Counting.{contracts_push}
 
 -- the line x stands at the place i
 module _ (ls : List Interest) (i : ℕ) (x : Interest) (h : i < length ls) (at : x ≡ get_or ls i x) where
@@ -39,39 +28,3 @@ module _ (ls : List Interest) (i : ℕ) (x : Interest) (h : i < length ls) (at :
 
     pub total_no : (n : ℕ) → p x ≡ false → n ≡ contracts p (take i ls) → n ≡ contracts p (take (i + 1) ls)
     total_no n t e = omega (arith, total_more, cond-false (p x) x.size 0 t)
-
-    pub count_more : length (sizes p (take (i + 1) ls)) ≡ length (sizes p (take i ls)) + cond (p x) 1 0
-    count_more = ap (λ zs. length (sizes p zs)) front ∙ count_push p (take i ls) x
-
-    pub count_here : p x ≡ true → length (sizes p (take i ls)) < length (sizes p ls)
-    count_here t = place_here (λ _. 0) (λ _. 0) ls i x stands p t
-
-    pub within_parts : p x ≡ true → (parts n : ℕ) → parts ≡ length (sizes p ls) → n ≡ length (sizes p (take i ls)) → n < parts
-    within_parts t parts n long e = omega (arith, count_here t)
-
-    module _ (inv : some p ls ≡ some p (drop i ls)) where
-      step : some p ls ≡ p x || some p (drop (i + 1) ls)
-      step = inv ∙ ap (some p) back
-
-      pub some_yes : p x ≡ true → true ≡ some p ls
-      some_yes t = sym (step ∙ ap (λ b. b || some p (drop (i + 1) ls)) t)
-
-      pub some_no : p x ≡ false → some p ls ≡ some p (drop (i + 1) ls)
-      some_no t = step ∙ ap (λ b. b || some p (drop (i + 1) ls)) t
-
-pub total_all : (p : Interest → Bool) (ls : List Interest) (i n : ℕ) → length ls ≤ i → n ≡ contracts p (take i ls) → n ≡ contracts p ls
-total_all p ls i n h e = e ∙ ap (contracts p) (take_all i ls h)
-
-pub front_le : (p : Interest → Bool) (ls : List Interest) (i : ℕ) → contracts p (take i ls) ≤ contracts p ls
-front_le p ls i = omega (arith, contracts_append p (take i ls) (drop i ls), ap (contracts p) (take-append-drop i ls))
-
-pub bound : (p : Interest → Bool) (ls : List Interest) (i n : ℕ) → n ≡ contracts p (take i ls) → n ≤ length ls * 1000000
-bound p ls i n e = omega (arith, front_le p ls i, few p ls)
-
-pub some_none : (p : Interest → Bool) (ls : List Interest) (i : ℕ) → length ls ≤ i → some p ls ≡ some p (drop i ls) → false ≡ some p ls
-some_none p ls i h inv = sym (inv ∙ at_drop_all (some p) ls i h)
-
-pub nothing_same : (ls : List Interest) (out : List ℕ) (i : ℕ) → length ls ≤ i → length out ≡ length ls → ((k : ℕ) → k < i → get_or out k 0 ≡ 0) → out ≡ nothing ls
-nothing_same ls out i h e zero =
-    let m : length (nothing ls) ≡ length ls = length-map ls (λ _. 0) in
-    ext_get_or 0 out (nothing ls) (e ∙ sym m) (λ k lt. zero k (omega arith) ∙ sym (zeros_at ls k))

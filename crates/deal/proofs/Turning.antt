@@ -1,23 +1,21 @@
 -- The others of a level, gathered to share out.
-use Rattle.std.proofs.Common.{◌≡◌, ℕ, ◌+◌, ◌<◌, ◌≤◌, true, false, cond, leb, List, [], ◌∷◌, ◌++◌, map, length, get_or, take, drop, set, ℤ, sym, refl, ap, ◌∙◌, append_assoc, append-nil, arith}
-use Rattle.std.proofs.lemmas.List.{take_more_set, at_drop_all}
-use Rattle.std.proofs.lemmas.Bool.{and_from, le-leb, cond-true, cond-false}
+use Rattle.std.proofs.Common.{◌≡◌, ℕ, ◌+◌, ◌≤◌, true, false, cond, leb, List, [], ◌∷◌, map, ℤ, refl, ap, arith}
+use Rattle.std.proofs.lemmas.Bool.{and_from, le-leb}
 use Rattle.share.specs.Shares.{rises_from}
 use Rattle.filling.specs.declared.interest.Interest.{Interest}
 use Rattle.filling.specs.Totals.{other_at, sizes}
 use Rattle.deal.specs.declared.turns.Turn.{Turn}
 use Rattle.deal.specs.Levels.{turns_from}
-use Rattle.deal.proofs.Steps.{back}
 
 abbrev pub turn : ℕ → Interest → Turn
-turn n l = record { place = n; line = l }
+turn n l = record { place = n; size = l.size }
 
-pub turn_sizes : (v : ℤ) (n : ℕ) (ls : List Interest) → map (λ t. t.line.size) (turns_from v n ls) ≡ sizes (other_at v) ls
+pub turn_sizes : (v : ℤ) (n : ℕ) (ls : List Interest) → map (λ t. t.size) (turns_from v n ls) ≡ sizes (other_at v) ls
 turn_sizes v n [] = refl
 turn_sizes v n (l ∷ ls) =
     let ih = turn_sizes v (n + 1) ls in
     let ts = turns_from v (n + 1) ls in
-    elim (other_at v l) as (λ b. map (λ t. t.line.size) (cond b (turn n l ∷ ts) ts) ≡ cond b (l.size ∷ sizes (other_at v) ls) (sizes (other_at v) ls))
+    elim (other_at v l) as (λ b. map (λ t. t.size) (cond b (turn n l ∷ ts) ts) ≡ cond b (l.size ∷ sizes (other_at v) ls) (sizes (other_at v) ls))
     [ true ↦ ap (λ zs. l.size ∷ zs) ih | false ↦ ih ]
 
 pub turns_rise : (v : ℤ) (low n : ℕ) (ls : List Interest) → low ≤ n → rises_from low (map (λ t. t.place) (turns_from v n ls)) ≡ true
@@ -28,22 +26,3 @@ turns_rise v low n (l ∷ ls) h =
       | true ↦ and_from (leb low n) (rises_from (n + 1) (map (λ t. t.place) ts)) (le-leb low n h) (turns_rise v (n + 1) (n + 1) ls (omega arith))
       | false ↦ turns_rise v low (n + 1) ls (omega arith)
     ]
-
-module _ (v : ℤ) (ls : List Interest) (out : List Turn) (n i : ℕ) (all : List Turn) (inv : take n out ++ turns_from v i (drop i ls) ≡ all) where
-  pub gathered : length ls ≤ i → take n out ≡ all
-  gathered h = sym (append-nil (take n out)) ∙ ap (λ zs. take n out ++ zs) (sym (at_drop_all (turns_from v i) ls i h)) ∙ inv
-
-  module _ (x : Interest) (h : i < length ls) (at : x ≡ get_or ls i x) where
-    abbrev ts : List Turn
-    ts = turns_from v (i + 1) (drop (i + 1) ls)
-
-    here : turns_from v i (drop i ls) ≡ cond (other_at v x) (turn i x ∷ ts) ts
-    here = ap (turns_from v i) (back ls i x h at)
-
-    pub gather_yes : n < length out → other_at v x ≡ true → take (n + 1) (set out n (turn i x)) ++ ts ≡ all
-    gather_yes lt t =
-        ap (λ zs. zs ++ ts) (take_more_set out n (turn i x) lt) ∙ append_assoc (take n out) (turn i x ∷ []) ts ∙
-        ap (λ zs. take n out ++ zs) (sym (here ∙ cond-true (other_at v x) (turn i x ∷ ts) ts t)) ∙ inv
-
-    pub gather_no : other_at v x ≡ false → take n out ++ ts ≡ all
-    gather_no t = ap (λ zs. take n out ++ zs) (sym (here ∙ cond-false (other_at v x) (turn i x ∷ ts) ts t)) ∙ inv

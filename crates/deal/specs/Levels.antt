@@ -19,7 +19,7 @@ abbrev pub best_under : Option ℤ → Option ℤ → List Interest → Option �
 best_under bound best [] = best
 best_under bound best (l ∷ ls) = best_under bound (cond (under bound l.gain && over best l.gain) (Some l.gain) best) ls
 
--- the others of the level v, with their place numbers from n on
+-- the others of the level v: their place numbers, from n on, and sizes
 abbrev pub turns_from : ℤ → ℕ → List Interest → List Turn
 turns_from v n [] = []
-turns_from v n (l ∷ ls) = cond (other_at v l) (record { place = n; line = l } ∷ turns_from v (n + 1) ls) (turns_from v (n + 1) ls)
+turns_from v n (l ∷ ls) = cond (other_at v l) (record { place = n; size = l.size } ∷ turns_from v (n + 1) ls) (turns_from v (n + 1) ls)

@@ -1,4 +1,4 @@
-pub mod Groups
+pub mod Lines
 pub mod Plans
 pub mod Levels
 pub mod Answers

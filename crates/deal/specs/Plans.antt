@@ -9,12 +9,12 @@ use Rattle.deal.specs.declared.plans.Plan.TheVariants.{Down, Facilitated}
 -- what comes down to a level
 abbrev pub room_of : Plan → List Interest → ℤ → ℕ
 room_of (Down a) ls = reaching a ls
-room_of (Facilitated Z g r) ls = fac_room Z g ls
+room_of (Facilitated t) ls = fac_room t.size t.gain ls
 
 -- what the others of a level share out
 abbrev pub pot_of : Plan → List Interest → ℤ → ℕ
 pot_of (Down a) ls = left_over a ls
-pot_of (Facilitated Z g r) ls = fac_pot Z g r ls
+pot_of (Facilitated t) ls = fac_pot t.size t.gain t.reserved ls
 
 -- what each line gets
 abbrev pub planned : Plan → List Interest → List ℕ

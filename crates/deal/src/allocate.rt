@@ -1,115 +1,78 @@
 // Who gets how many contracts of an order.
-ghost use Rattle.std.specs.Prelude.{◌≡◌, ◌≤◌, true, ◌&&◌, length, is_ok, ◌==◌, nat_le};
-ghost use Rattle.filling.specs.Mechanisms.{nothing, facilitated, solicited, blocked};
+ghost use Rattle.std.specs.Prelude.{◌≡◌, true, length, is_ok};
+ghost use Rattle.filling.specs.Mechanisms.{facilitated, solicited, blocked};
 ghost use Rattle.filling.specs.Rules.{Settles};
-ghost use Rattle.deal.specs.Answers.{most_lines, allocated, allocation_of, fills_in, allocate_answer, after_allocate};
+ghost use Rattle.deal.specs.Answers.{allocated, allocation_of, fills_in, allocate_answer, after_allocate};
 
-use super::groups::{Group, any, total};
-use super::levels::deal;
-use super::plans::{Plan, rest_of, shared_of};
-use super::terms::{Allocation, MOST_LINES, Terms};
+use super::lines::Lines;
+use super::plans::Plan;
+use super::terms::{Allocation, Terms};
 use filling::interest::Interest;
 use market::fill::Reason;
 use market::names::Mechanism;
 use market::refusal::Refusal;
 
-// Writes no contracts for each line.
-fn clear(lines: &[Interest], out: &mut [u32])
-    requires { length out.old ≡ length lines.now }
-    ensures { out.new ≡ nothing lines.now }
-{
-    for i in 0..lines.len() {
-        out[i] = 0;
-    }
-}
-
 // Facilitates an order: what the lines leave is the contra's.
-fn facilitate(
-    size: u32,
-    gain: i32,
-    reserved: u32,
-    lines: &[Interest],
-    out: &mut [u32],
-) -> Allocation
-    requires few { length lines.now ≤ 128 }
-    requires places { length out.old ≡ length lines.now }
-    ensures answer { result ≡ allocation_of (facilitated size gain reserved lines.now) }
-    ensures after { out.new ≡ fills_in out.old (facilitated size gain reserved lines.now) }
+fn facilitate(terms: &Terms, lines: &Lines, out: &mut [u32]) -> Allocation
+    requires { length out.old ≡ length lines.now }
+    ensures answer { result ≡ allocation_of (facilitated terms.now.size terms.now.gain terms.now.reserved lines.now) }
+    ensures after { out.new ≡ fills_in out.old (facilitated terms.now.size terms.now.gain terms.now.reserved lines.now) }
 {
-    deal(
-        Plan::Facilitated {
-            size,
-            gain,
-            reserved,
-        },
-        lines,
-        out,
-    );
-    Allocation::Executed(rest_of(size, gain, lines) - shared_of(size, gain, reserved, lines))
+    lines.deal(&Plan::Facilitated(*terms), out);
+    Ok(lines.rest_of(terms.size, terms.gain) - lines.shared_of(terms))
 }
 
 // Crosses a solicited order: better lines fill it, or lines from its gain on where a customer stands there, or the
 // contra takes all of it.
-fn solicit(size: u32, gain: i32, lines: &[Interest], out: &mut [u32]) -> Allocation
-    requires few { length lines.now ≤ 128 }
-    requires places { length out.old ≡ length lines.now }
-    ensures answer { result ≡ allocation_of (solicited size gain lines.now) }
-    ensures after { out.new ≡ fills_in out.old (solicited size gain lines.now) }
+fn solicit(terms: &Terms, lines: &Lines, out: &mut [u32]) -> Allocation
+    requires { length out.old ≡ length lines.now }
+    ensures answer { result ≡ allocation_of (solicited terms.now.size terms.now.gain lines.now) }
+    ensures after { out.new ≡ fills_in out.old (solicited terms.now.size terms.now.gain lines.now) }
 {
-    if size <= total(Group::Better, gain, lines) {
-        deal(Plan::Down(size), lines, out);
-        return Allocation::Executed(0);
+    let Terms { size, gain, .. } = *terms;
+    if size <= lines.better(gain) {
+        lines.deal(&Plan::Down(size), out);
+        return Ok(0);
     }
-    if any(Group::CustomersFrom, gain, lines) {
-        if size > total(Group::From, gain, lines) {
-            return Allocation::Cancelled(Reason::CustomerStands);
+    if lines.customer_from(gain) {
+        if size > lines.at_least(gain) {
+            return Err(Reason::CustomerStands);
         }
-        deal(Plan::Down(size), lines, out);
-        return Allocation::Executed(0);
+        lines.deal(&Plan::Down(size), out);
+        return Ok(0);
     }
-    if any(Group::PooledOver, gain, lines) {
-        return Allocation::Cancelled(Reason::BetterStands);
+    if lines.pooled_over(gain) {
+        return Err(Reason::BetterStands);
     }
-    clear(lines, out);
-    Allocation::Executed(size)
+    out.fill(0);
+    Ok(size)
 }
 
 // Crosses a block: as much as can be executes with the lines.
-fn cross_block(size: u32, gain: i32, lines: &[Interest], out: &mut [u32]) -> Allocation
-    requires few { length lines.now ≤ 128 }
-    requires places { length out.old ≡ length lines.now }
-    ensures answer { result ≡ allocation_of (blocked size gain lines.now) }
-    ensures after { out.new ≡ fills_in out.old (blocked size gain lines.now) }
+fn cross_block(terms: &Terms, lines: &Lines, out: &mut [u32]) -> Allocation
+    requires { length out.old ≡ length lines.now }
+    ensures answer { result ≡ allocation_of (blocked terms.now.size terms.now.gain lines.now) }
+    ensures after { out.new ≡ fills_in out.old (blocked terms.now.size terms.now.gain lines.now) }
 {
-    let standing = total(Group::From, gain, lines);
+    let standing = lines.at_least(terms.gain);
     if standing == 0 {
-        return Allocation::Cancelled(Reason::NoInterest);
+        return Err(Reason::NoInterest);
     }
-    deal(Plan::Down(size.min(standing)), lines, out);
-    Allocation::Executed(0)
+    lines.deal(&Plan::Down(terms.size.min(standing)), out);
+    Ok(0)
 }
 
 // Crosses an order by its mechanism.
-fn cross(terms: &Terms, lines: &[Interest], out: &mut [u32]) -> Allocation
-    requires few { length lines.now ≤ 128 }
-    requires places { length out.old ≡ length lines.now }
+fn cross(terms: &Terms, lines: &Lines, out: &mut [u32]) -> Allocation
+    requires { length out.old ≡ length lines.now }
     ensures answer { result ≡ allocation_of (allocated terms.now lines.now) }
     ensures after { out.new ≡ fills_in out.old (allocated terms.now lines.now) }
 {
     match terms.mechanism {
-        Mechanism::Facilitation => {
-            facilitate(terms.size, terms.gain, terms.reserved, lines, out)
-        }
-        Mechanism::Solicited => solicit(terms.size, terms.gain, lines, out),
-        Mechanism::Block => cross_block(terms.size, terms.gain, lines, out),
+        Mechanism::Facilitation => facilitate(terms, lines, out),
+        Mechanism::Solicited => solicit(terms, lines, out),
+        Mechanism::Block => cross_block(terms, lines, out),
     }
-}
-
-// Whether there are not too many lines, and a place for each.
-fn one_each(lines: usize, places: usize) -> bool
-    ensures { result ≡ (nat_le lines most_lines && places == lines) }
-{
-    lines <= MOST_LINES && places == lines
 }
 
 // Crosses an order: writes what each line gets, and answers what the contra gets, or why nothing executes. Refused, and
@@ -119,8 +82,9 @@ pub fn allocate(terms: &Terms, lines: &[Interest], out: &mut [u32]) -> Result<Al
     ensures after { out.new ≡ after_allocate terms.now lines.now out.old }
     ensures fair { is_ok result ≡ true → Settles terms.now.size terms.now.gain lines.now (allocated terms.now lines.now) }
 {
-    if !one_each(lines.len(), out.len()) {
+    if out.len() != lines.len() {
         return Err(Refusal::OutOfLimits);
     }
-    Ok(cross(terms, lines, out))
+    let lines = Lines::new(lines)?;
+    Ok(cross(terms, &lines, out))
 }

@@ -2,8 +2,7 @@
 ghost use Rattle.std.specs.Prelude.{◌≡◌};
 ghost use Rattle.deal.specs.Answers.{better_answer};
 
-use super::groups::{Group, total};
-use super::terms::MOST_LINES;
+use super::lines::Lines;
 use filling::interest::Interest;
 use market::refusal::Refusal;
 
@@ -11,8 +10,6 @@ use market::refusal::Refusal;
 pub fn better_total(gain: i32, lines: &[Interest]) -> Result<u32, Refusal>
     ensures { result ≡ better_answer gain lines.now }
 {
-    if lines.len() > MOST_LINES {
-        return Err(Refusal::OutOfLimits);
-    }
-    Ok(total(Group::Better, gain, lines))
+    let lines = Lines::new(lines)?;
+    Ok(lines.better(gain))
 }

@@ -4,8 +4,8 @@
 pub mod allocate;
 pub mod better;
 pub mod block;
-mod groups;
 mod levels;
+mod lines;
 mod plans;
 pub mod terms;
 mod turns;

@@ -7,7 +7,7 @@ pub const MOST_LINES: usize = 128;
 
 // How an order is crossed: its contracts, what it gains at its own price, and the contracts that are reserved for the
 // facilitator.
-#[derive(Clone, Copy)]
+#[derive(Clone, Copy, PartialEq, Eq)]
 pub struct Terms {
     pub mechanism: Mechanism,
     pub size: u32,
@@ -16,8 +16,4 @@ pub struct Terms {
 }
 
 // The contra's contracts beside the lines', or why nothing executes.
-#[derive(Clone, Copy)]
-pub enum Allocation {
-    Executed(u32),
-    Cancelled(Reason),
-}
+pub type Allocation = Result<u32, Reason>;

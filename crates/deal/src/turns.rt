@@ -1,21 +1,20 @@
 // Lines that share out: records of the share-out.
-use filling::interest::Interest;
 use share::Claim;
 
-// A line with its place number in line.
-#[derive(Clone, Copy)]
+// A line's place number in line, and its contracts.
+#[derive(Clone, Copy, Default)]
 pub(crate) struct Turn {
     pub place: u32,
-    pub line: Interest,
+    pub size: u32,
 }
 
 impl Claim for Turn {
-    ghost wanted = { λ t. t.line.size };
+    ghost wanted = { λ t. t.size };
 
     ghost standing = { λ t. t.place };
 
     fn size(&self) -> u32 {
-        self.line.size
+        self.size
     }
 
     fn place(&self) -> u32 {

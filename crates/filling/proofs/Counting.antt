@@ -1,6 +1,7 @@
 -- Sums over the lines that pass a test.
 use Rattle.std.proofs.Common.{◌≡◌, ℕ, zero, suc, ◌+◌, Bool, true, false, cond, not, ◌&&◌, List, [], ◌∷◌, ◌++◌, length, get_or, drop, ℤ, sum, refl, ap, ◌∙◌, add-one, arith, length-append}
 use lib.Signed.{le_z}
+use Rattle.std.specs.List.{AllByRecursion}
 use Rattle.std.proofs.lemmas.List.Sums.{sum_by-cons, sum_by-append}
 use Rattle.std.proofs.lemmas.Int.{ints}
 use Rattle.std.proofs.lemmas.Bool.{and_parts}
@@ -21,6 +22,11 @@ sum_drop (x ∷ xs) (suc k) = sum_drop xs k ∙ ap (λ n. get_or xs k 0 + sum (d
 
 pub contracts_cons : (p : Interest → Bool) (l : Interest) (ls : List Interest) → contracts p (l ∷ ls) ≡ cond (p l) l.size 0 + contracts p ls
 contracts_cons p l ls = elim (p l) as (λ b. sum (cond b (l.size ∷ sizes p ls) (sizes p ls)) ≡ cond b l.size 0 + contracts p ls) [ true ↦ sum_cons l.size (sizes p ls) | false ↦ omega arith ]
+
+-- tests that agree on each line
+pub contracts_same : (p q : Interest → Bool) (ls : List Interest) → AllByRecursion (λ l. p l ≡ q l) ls → contracts p ls ≡ contracts q ls
+contracts_same p q [] h = refl
+contracts_same p q (l ∷ ls) h = omega (arith, contracts_cons p l ls, contracts_cons q l ls, ap (λ b. cond b l.size 0) h.0, contracts_same p q ls h.1)
 
 pub sizes_append : (p : Interest → Bool) (xs ys : List Interest) → sizes p (xs ++ ys) ≡ sizes p xs ++ sizes p ys
 sizes_append p [] ys = refl

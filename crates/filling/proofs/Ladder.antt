@@ -8,7 +8,7 @@ use Rattle.std.proofs.lemmas.Bool.{cond-true, cond-false}
 use Rattle.filling.specs.declared.interest.Interest.{Interest}
 use Rattle.filling.specs.Totals.{better, level, customer_at, other_at, contracts, filled}
 use Rattle.filling.specs.Filling.{fills_from, dealt, reaching, left_over, fill_down}
-use Rattle.filling.proofs.Counting.{sum_cons, Splits, contracts_cons, contracts_split, filled_split, level_splits}
+use Rattle.filling.proofs.Counting.{sum_cons, Splits, contracts_cons, contracts_same, contracts_split, filled_split, level_splits}
 use Rattle.filling.proofs.Levels.{level_gets}
 
 pub better_splits : (v : ℤ) → Splits (better v) (better (v +ℤ pos 1)) (level (v +ℤ pos 1))
@@ -26,12 +26,11 @@ none_filled p (l ∷ ls) (f ∷ fs) h = omega (arith, cond-false (p l) f 0 h.0, 
 
 -- tests that each line passes
 pub all_pass : (p : Interest → Bool) (ls : List Interest) → AllByRecursion (λ l. p l ≡ true) ls → contracts p ls ≡ contracts (λ _. true) ls
-all_pass p [] h = refl
-all_pass p (l ∷ ls) h = omega (arith, contracts_cons p l ls, contracts_cons (λ _. true) l ls, cond-true (p l) l.size 0 h.0, all_pass p ls h.1)
+all_pass p ls h = contracts_same p (λ _. true) ls h
 
 pub all_filled : (p : Interest → Bool) (ls : List Interest) (fs : List ℕ) → length fs ≡ length ls → AllByRecursion (λ l. p l ≡ true) ls → filled p ls fs ≡ sum fs
 all_filled p [] [] e h = refl
-all_filled p [] (f ∷ fs) e h = absurd (let z : ⊥ = omega arith in z)
+all_filled p [] (f ∷ fs) e h = absurd (omega arith)
 all_filled p (l ∷ ls) [] e h = refl
 all_filled p (l ∷ ls) (f ∷ fs) e h = omega (arith, cond-true (p l) f 0 h.0, sum_cons f fs, all_filled p ls fs (omega arith) h.1)
 

@@ -11,15 +11,14 @@ use Rattle.filling.specs.Totals.{better, contracts}
 use Rattle.filling.specs.Filling.{reaching, left_over, fill_down}
 use Rattle.filling.specs.Mechanisms.{Outcome, executed, at_least, customer_from, pooled_over, some, nothing, solicited, executing, best_from, block_gain, blocked}
 use Rattle.filling.specs.Rules.{Fair, Settles, AllOrNone, Solicitation, Block}
-use Rattle.filling.proofs.Counting.{contracts_cons}
+use Rattle.filling.proofs.Counting.{contracts_same}
 use Rattle.filling.proofs.Ladder.{dealt_long, none_pass, fill_down_total}
 use Rattle.filling.proofs.Places.{none_here, dealt_in_line}
-use Rattle.filling.proofs.Down.{fill_down_within, fill_down_customers}
+use Rattle.filling.proofs.Down.{contracts_under, fill_down_within, fill_down_customers}
 
 -- a test that another follows from
 pub contracts_mono : (p q : Interest → Bool) → ((l : Interest) (x : ℕ) → cond (q l) x 0 ≤ cond (p l) x 0) → (ls : List Interest) → contracts q ls ≤ contracts p ls
-contracts_mono p q s [] = omega arith
-contracts_mono p q s (l ∷ ls) = omega (arith, contracts_cons p l ls, contracts_cons q l ls, s l l.size, contracts_mono p q s ls)
+contracts_mono p q s ls = omega (arith, contracts_under p q (λ _. false) (λ l x. omega (arith, s l x)) ls)
 
 pub at_least_all : (g : ℤ) (ls : List Interest) → contracts (at_least g) ls ≤ contracts (λ _. true) ls
 at_least_all g ls = contracts_mono (λ _. true) (at_least g) (λ l x. grind (arith, ints)) ls
@@ -63,7 +62,7 @@ zeros_at (l ∷ ls) zero = refl
 zeros_at (l ∷ ls) (suc i) = zeros_at ls i
 
 pub none_such : (p : Interest → Bool) (ls : List Interest) → some p ls ≡ false → (i : ℕ) (l : Interest) → slice_get ls i ≡ Some l → p l ≡ false
-none_such p [] h i l e = absurd (let z : ◌≡◌ {A = ℕ} 0 1 = cc in let y : ⊥ = omega arith in y)
+none_such p [] h i l e = cc
 none_such p (x ∷ ls) h zero l e = let s : x ≡ l = cc in ap p (sym s) ∙ (or_parts (p x) (some p ls) h).0
 none_such p (x ∷ ls) h (suc i) l e = none_such p ls (or_parts (p x) (some p ls) h).1 i l e
 
@@ -133,7 +132,7 @@ module _ (Z : ℕ) (g : ℤ) (ls : List Interest) where
 
   -- each line at which as many execute
   covers : (b : ℤ) (xs : List Interest) (i : ℕ) (l : Interest) → slice_get xs i ≡ Some l → executing Z ls l.gain ≡ executing Z ls g → l.gain ≤ℤ best_from Z g ls b xs
-  covers b [] i l e h = absurd (let z : ◌≡◌ {A = ℕ} 0 1 = cc in let y : ⊥ = omega arith in y)
+  covers b [] i l e h = cc
   covers b (x ∷ xs) zero l e h =
       let c : ℤ = cond (lt_z b x.gain && eqb (executing Z ls x.gain) (executing Z ls g)) x.gain b in
       let r = best_rises c xs in
@@ -146,10 +145,6 @@ module _ (Z : ℕ) (g : ℤ) (ls : List Interest) where
       (λ t. ⊎_elim (λ n. grind (arith, ints)) (λ n. absurd (both_ways _ n q)) (and_cases (lt_z b x.gain) (eqb (executing Z ls x.gain) (executing Z ls g)) t)) in
       omega (arith, ints)
   covers b (x ∷ xs) (suc i) l e h = covers (cond (lt_z b x.gain && eqb (executing Z ls x.gain) (executing Z ls g)) x.gain b) xs i l e h
-
-contracts_same : (p q : Interest → Bool) (ls : List Interest) → AllByRecursion (λ l. p l ≡ q l) ls → contracts p ls ≡ contracts q ls
-contracts_same p q [] h = refl
-contracts_same p q (l ∷ ls) h = omega (arith, contracts_cons p l ls, contracts_cons q l ls, ap (λ b. cond b l.size 0) h.0, contracts_same p q ls h.1)
 
 tests_same : (v g m : ℤ) → v ≤ℤ g → (v ≤ℤ m → g ≤ℤ m) → le_z g m ≡ le_z v m
 tests_same v g m h f = by_lt_z m v (λ lt. grind (arith, ints)) (λ le. let k = f le in grind (arith, ints))
@@ -201,7 +196,7 @@ module _ (Z : ℕ) (g : ℤ) (ls : List Interest) where
       (λ many.
       let q : executing Z ls l.gain ≡ executing Z ls g = omega (arith, at_least_down g l.gain ls up) in
       let c = covers Z g ls g ls w.0 l w.2 q in
-      absurd (let z : ⊥ = omega (arith, ints) in z))
+      absurd (omega (arith, ints)))
       (cases_lt (executing Z ls l.gain) (executing Z ls g)))
       (lowest v ls)
 
@@ -211,7 +206,7 @@ module _ (Z : ℕ) (g : ℤ) (ls : List Interest) where
   paid : (i : ℕ) (l : Interest) → slice_get ls i ≡ Some l → 0 < get_or (fill_down (executing Z ls g) ls) i 0 → p ≤ℤ l.gain
   paid i l e h =
       by_lt_z l.gain p
-      (λ lt. absurd (let z : ⊥ = omega (arith, none_under (executing Z ls g) p ls (omega (arith, as_many)) i l e lt) in z))
+      (λ lt. absurd (omega (arith, none_under (executing Z ls g) p ls (omega (arith, as_many)) i l e lt)))
       (λ ge. ge)
 
   block_fair : Settles Z g ls (blocked Z g ls)

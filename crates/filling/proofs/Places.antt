@@ -15,7 +15,7 @@ use Rattle.filling.proofs.Levels.{fill_customer, fill_other}
 
 -- a list around a place
 around : (ls : List Interest) (i : ℕ) (l : Interest) → slice_get ls i ≡ Some l → ls ≡ take i ls ++ l ∷ drop (suc i) ls
-around [] i l e = absurd (let z : ◌≡◌ {A = ℕ} 0 1 = cc in let y : ⊥ = omega arith in y)
+around [] i l e = cc
 around (x ∷ ls) zero l e = ap (λ y. y ∷ ls) (let s : x ≡ l = cc in s)
 around (x ∷ ls) (suc i) l e = ap (λ zs. x ∷ zs) (around ls i l e)
 
@@ -31,7 +31,7 @@ own_other l e = and_from (level l.gain l) (not l.customer) (level_own l) (not_fr
 module _ (room pot : ℤ → ℕ) where
   from_at : (ls before rest : List Interest) (i : ℕ) (l : Interest) → slice_get rest i ≡ Some l →
       get_or (fills_from room pot ls before rest) i 0 ≡ fill room pot ls (before ++ take i rest) l
-  from_at ls before [] i l e = absurd (let z : ◌≡◌ {A = ℕ} 0 1 = cc in let y : ⊥ = omega arith in y)
+  from_at ls before [] i l e = cc
   from_at ls before (x ∷ rest) zero l e = ap (λ b. fill room pot ls b x) (sym (append-nil before)) ∙ ap (λ y. fill room pot ls (before ++ []) y) (let s : x ≡ l = cc in s)
   from_at ls before (x ∷ rest) (suc i) l e = from_at ls (before ++ x ∷ []) rest i l e ∙ ap (λ b. fill room pot ls b l) (append_assoc before (x ∷ []) (take i rest))
 
@@ -75,7 +75,7 @@ module _ (room pot : ℤ → ℕ) where
     pub other_short : (v : ℤ) → other_at v l ≡ true → get_or (dealt room pot ls) i 0 < l.size → pot v ≤ contracts (other_at v) ls → pot v < contracts (other_at v) ls
     other_short v t h k =
         ⊎_elim (λ lt. lt)
-        (λ le. absurd (let z : ⊥ = omega (arith, other_full v t (omega arith)) in z))
+        (λ le. absurd (omega (arith, other_full v t (omega arith))))
         (cases_lt (pot v) (contracts (other_at v) ls))
 
     pub other_none : (v : ℤ) → other_at v l ≡ true → pot v ≡ 0 → get_or (dealt room pot ls) i 0 ≡ 0
@@ -122,8 +122,8 @@ module _ (room pot : ℤ → ℕ) where
         (cases_Bool l.customer)
 
 before_more : (p : Interest → Bool) (ls : List Interest) (i j : ℕ) (k : Interest) → slice_get ls i ≡ Some k → i < j → p k ≡ true → contracts p (take i ls) + k.size ≤ contracts p (take j ls)
-before_more p [] i j k e h t = absurd (let z : ◌≡◌ {A = ℕ} 0 1 = cc in let y : ⊥ = omega arith in y)
-before_more p (x ∷ ls) i zero k e h t = absurd (let z : ⊥ = omega arith in z)
+before_more p [] i j k e h t = cc
+before_more p (x ∷ ls) i zero k e h t = absurd (omega arith)
 before_more p (x ∷ ls) zero (suc j) k e h t =
     let s : x ≡ k = cc in
     omega (arith, contracts_cons p x (take j ls), cond-true (p x) x.size 0 (ap p s ∙ t), ap (λ (y : Interest). y.size) s)

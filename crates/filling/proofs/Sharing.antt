@@ -27,15 +27,15 @@ none_given ss k = omega (arith, all_given 0 ss (omega arith), get_d_sum (shares 
 
 sum_le : (xs ys : List ℕ) → length xs ≡ length ys → ((k : ℕ) → get_or xs k 0 ≤ get_or ys k 0) → sum xs ≤ sum ys
 sum_le [] [] e h = omega arith
-sum_le [] (y ∷ ys) e h = absurd (let z : ⊥ = omega arith in z)
-sum_le (x ∷ xs) [] e h = absurd (let z : ⊥ = omega arith in z)
+sum_le [] (y ∷ ys) e h = absurd (omega arith)
+sum_le (x ∷ xs) [] e h = absurd (omega arith)
 sum_le (x ∷ xs) (y ∷ ys) e h = omega (arith, sum_by-cons (λ n. n) x xs, sum_by-cons (λ n. n) y ys, sum_le xs ys (omega arith) (λ i. h (suc i)), h 0)
 
 -- a list that is nowhere above another, and as much in all, is the other
 same_from_sum : (xs ys : List ℕ) → length xs ≡ length ys → ((k : ℕ) → get_or xs k 0 ≤ get_or ys k 0) → sum ys ≤ sum xs → xs ≡ ys
 same_from_sum [] [] e h k = refl
-same_from_sum [] (y ∷ ys) e h k = absurd (let z : ⊥ = omega arith in z)
-same_from_sum (x ∷ xs) [] e h k = absurd (let z : ⊥ = omega arith in z)
+same_from_sum [] (y ∷ ys) e h k = absurd (omega arith)
+same_from_sum (x ∷ xs) [] e h k = absurd (omega arith)
 same_from_sum (x ∷ xs) (y ∷ ys) e h k =
     let below : (i : ℕ) → get_or xs i 0 ≤ get_or ys i 0 = λ i. h (suc i) in
     let le : sum xs ≤ sum ys = sum_le xs ys (omega arith) below in

@@ -1,6 +1,0 @@
-use Rattle.std.proofs.Common.{drop}
-use Rattle.deal.proofs.Climbing.{Climbs}
-use Rattle.deal.proofs.block.climb.Given as goal
-
-abbrev pub invariant-loop-line : goal.invariant-loop-line
-invariant-loop-line l = Climbs l.size l.gain l.lines l.best l.ceiling (drop l.line-index l.lines)

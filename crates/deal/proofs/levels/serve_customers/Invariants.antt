@@ -1,9 +1,0 @@
-use Rattle.std.proofs.Common.{◌≡◌, ◌-◌, take}
-use Rattle.filling.specs.Totals.{customer_at, contracts}
-use Rattle.deal.proofs.Passes.{Passing, left_for}
-use Rattle.deal.proofs.levels.serve_customers.Given as goal
-
-abbrev pub invariant-loop-i : goal.invariant-loop-i
-invariant-loop-i l =
-    (l.left ≡ l.room - contracts (customer_at l.level) (take l.i l.lines))
-    × Passing (customer_at l.level) (left_for l.level l.room l.lines) l.lines l.initial.out l.out l.i
