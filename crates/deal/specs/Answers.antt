@@ -1,13 +1,12 @@
 -- What the calls answer.
 use Rattle.std.specs.Prelude.{◌≡◌, ℕ, ◌<◌, Bool, cond, ◌&&◌, List, length, ℤ, ◌≤ℤ◌, ◌<ℤ◌, Ok, Err, Result, ◌==◌, nat_le}
+use Rattle.market.specs.declared.fill.Reason.{Reason}
 use Rattle.market.specs.declared.refusal.Refusal.{Refusal}
 use Rattle.market.specs.declared.refusal.Refusal.TheVariants.{OutOfLimits}
 use Rattle.filling.specs.declared.interest.Interest.{Interest}
 use Rattle.filling.specs.Totals.{better, contracts}
 use Rattle.filling.specs.Mechanisms.{Outcome, executed, cancelled, allocation, executing, block_gain}
 use Rattle.deal.specs.declared.terms.Terms.{Terms}
-use Rattle.deal.specs.declared.terms.Allocation.{Allocation}
-use Rattle.deal.specs.declared.terms.Allocation.TheVariants.{Executed, Cancelled}
 
 -- the most lines that stand against an order
 abbrev pub most_lines : ℕ
@@ -35,9 +34,10 @@ fitting ls n = nat_le (length ls) most_lines && n == length ls
 abbrev pub allocated : Terms → List Interest → Outcome
 allocated t ls = allocation t.mechanism t.size t.gain t.reserved ls
 
-abbrev pub allocation_of : Outcome → Allocation
-allocation_of (executed fs c) = Executed c
-allocation_of (cancelled r) = Cancelled r
+-- the contra's contracts, or why nothing executes
+abbrev pub allocation_of : Outcome → Result ℕ Reason
+allocation_of (executed fs c) = Ok c
+allocation_of (cancelled r) = Err r
 
 -- the lines' contracts after it
 abbrev pub fills_in : List ℕ → Outcome → List ℕ
@@ -45,7 +45,7 @@ fills_in out (executed fs c) = fs
 fills_in out (cancelled r) = out
 
 -- what an allocation with n places answers
-abbrev pub allocate_answer : Terms → List Interest → ℕ → Result Allocation Refusal
+abbrev pub allocate_answer : Terms → List Interest → ℕ → Result (Result ℕ Reason) Refusal
 allocate_answer t ls n = cond (fitting ls n) (Ok (allocation_of (allocated t ls))) (Err OutOfLimits)
 
 -- and the places after it

@@ -45,7 +45,7 @@ fn facilitate(
         lines,
         out,
     );
-    Allocation::Executed(rest_of(size, gain, lines) - shared_of(size, gain, reserved, lines))
+    Ok(rest_of(size, gain, lines) - shared_of(size, gain, reserved, lines))
 }
 
 // Crosses a solicited order: better lines fill it, or lines from its gain on where a customer stands there, or the
@@ -58,20 +58,20 @@ fn solicit(size: u32, gain: i32, lines: &[Interest], out: &mut [u32]) -> Allocat
 {
     if size <= total(Group::Better, gain, lines) {
         deal(Plan::Down(size), lines, out);
-        return Allocation::Executed(0);
+        return Ok(0);
     }
     if any(Group::CustomersFrom, gain, lines) {
         if size > total(Group::From, gain, lines) {
-            return Allocation::Cancelled(Reason::CustomerStands);
+            return Err(Reason::CustomerStands);
         }
         deal(Plan::Down(size), lines, out);
-        return Allocation::Executed(0);
+        return Ok(0);
     }
     if any(Group::PooledOver, gain, lines) {
-        return Allocation::Cancelled(Reason::BetterStands);
+        return Err(Reason::BetterStands);
     }
     clear(lines, out);
-    Allocation::Executed(size)
+    Ok(size)
 }
 
 // Crosses a block: as much as can be executes with the lines.
@@ -83,10 +83,10 @@ fn cross_block(size: u32, gain: i32, lines: &[Interest], out: &mut [u32]) -> All
 {
     let standing = total(Group::From, gain, lines);
     if standing == 0 {
-        return Allocation::Cancelled(Reason::NoInterest);
+        return Err(Reason::NoInterest);
     }
     deal(Plan::Down(size.min(standing)), lines, out);
-    Allocation::Executed(0)
+    Ok(0)
 }
 
 // Crosses an order by its mechanism.

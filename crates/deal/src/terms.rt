@@ -16,8 +16,4 @@ pub struct Terms {
 }
 
 // The contra's contracts beside the lines', or why nothing executes.
-#[derive(Clone, Copy)]
-pub enum Allocation {
-    Executed(u32),
-    Cancelled(Reason),
-}
+pub type Allocation = Result<u32, Reason>;
