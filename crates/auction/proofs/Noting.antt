@@ -1,6 +1,7 @@
 -- Fills of lines, and the blotter lines that they make.
 use Rattle.std.proofs.Common.{◌≡◌, ℕ, zero, suc, ◌+◌, ◌≤◌, true, false, cond, eqb, List, [], ◌∷◌, ◌++◌, length, get_or, ℤ, Some, None, sum, Option, sym, refl, ap, ◌∙◌, subst, inl, inr, arith}
 use Rattle.std.specs.List.{AllByRecursion, slice_get}
+use Rattle.std.proofs.lemmas.List.Sums.{sum_by-append}
 use Rattle.std.proofs.lemmas.Bool.{cond-true, cond-false, eqb-true}
 use Rattle.market.specs.declared.fill.Party.{Party}
 use Rattle.market.specs.declared.fill.Party.TheVariants.{Entry, Response, Contra}
@@ -50,13 +51,12 @@ all_nth P [] i x e a = absurd (none_some x e)
 all_nth P (y ∷ xs) zero x e a = subst P (let s : y ≡ x = cc in s) a.0
 all_nth P (y ∷ xs) (suc i) x e a = all_nth P xs i x e a.1
 
-pub total_append : (xs ys : List Fill) → total (xs ++ ys) ≡ total xs + total ys
-total_append [] ys = omega arith
-total_append (x ∷ xs) ys = omega (arith, total_append xs ys)
-
 pub received_append : (p : Party) (xs ys : List Fill) → received p (xs ++ ys) ≡ received p xs + received p ys
 received_append p [] ys = omega arith
 received_append p (x ∷ xs) ys = omega (arith, received_append p xs ys)
+
+pub total_append : (xs ys : List Fill) → total (xs ++ ys) ≡ total xs + total ys
+total_append = sum_by-append (λ (f : Fill). f.contracts)
 
 pub total_noted : (who : Party) (price : ℤ) (n : ℕ) → total (noted who price n) ≡ n
 total_noted who price n =

@@ -1,24 +1,22 @@
 // Settling an order.
-ghost use Rattle.std.specs.Prelude.{◌≡◌, ℕ, ◌^◌, ◌<◌, ◌≤◌, true, List, length};
-ghost use Rattle.std.specs.List.{AllByRecursion};
+ghost use Rattle.std.specs.Prelude.{◌≡◌, ℕ, ◌^◌, ◌<◌, ◌≤◌, true, List, length, Ok};
 ghost use Rattle.auction.specs.Lines.{interest, lawful};
 ghost use Rattle.auction.specs.Terms.{terms_of};
-ghost use Rattle.auction.specs.Pricing.{pricing_in, paid, Priced};
-ghost use Rattle.auction.specs.Settlement.{settlement, blotted, fills_of, total};
-ghost use Rattle.auction.specs.declared.settled.Settled.TheVariants.{Executed};
+ghost use Rattle.auction.specs.Pricing.{pricing_in, paid};
+ghost use Rattle.auction.specs.Settlement.{executed, settlement, blotted, fills_of, total};
 ghost use Rattle.auction.specs.Answers.{answer_of, written_over, settle_answer, after_settle, Keeps};
 
-use super::blotter::{Pricing, note, note_lines, total_of};
+use super::blotter::{Notes, Pricing};
 use super::counting::{count, gain_at, reserved};
 use super::limits::LEAST_BLOTTER;
 use super::line::Line;
 use super::order::Order;
 use super::seats::can_stand;
-use super::settled::Settled;
+use super::settled::{Executed, Settled};
 use deal::allocate::allocate;
 use deal::better::better_total;
 use deal::block::block_gain;
-use deal::terms::{Allocation, MOST_LINES, Terms};
+use deal::terms::{MOST_LINES, Terms};
 use filling::interest::Interest;
 use market::fill::{Fill, Party};
 use market::names::Mechanism;
@@ -39,22 +37,23 @@ fn terms_of(order: &Order) -> Terms
 // How the lines are priced: at their own prices, but customers at the order's in a facilitation that better lines do not
 // fill, and all at one price in a block.
 fn pricing_of(order: &Order, counted: &[Interest]) -> Pricing
-    requires few { length counted.now ≤ 128 }
-    requires priced { AllByRecursion Priced counted.now }
+    requires { length counted.now ≤ 128 }
     ensures { result ≡ pricing_in order.now.mechanism order.now counted.now }
 {
     let gain = gain_at(order.side, order.price);
     match order.mechanism {
-        Mechanism::Facilitation => match better_total(gain, counted) {
-            Ok(better) if better < order.size => Pricing::CustomersAt(order.price),
-            Ok(_) => Pricing::Own,
-            Err(_) => unreachable(),
-        },
+        Mechanism::Facilitation => {
+            if better_total(gain, counted).unwrap() < order.size {
+                Pricing::CustomersAt(order.price)
+            } else {
+                Pricing::Own
+            }
+        }
         Mechanism::Solicited => Pricing::Own,
-        Mechanism::Block => match block_gain(order.size, gain, counted) {
-            Ok(best) => Pricing::AllAt(gain_at(order.side, best)),
-            Err(_) => unreachable(),
-        },
+        Mechanism::Block => {
+            let best = block_gain(order.size, gain, counted).unwrap();
+            Pricing::AllAt(gain_at(order.side, best))
+        }
     }
 }
 
@@ -66,19 +65,21 @@ fn write_fills(
     fills: &[u32],
     contra: u32,
     blotter: &mut [Fill],
-) -> Settled
+) -> Executed
     requires long { length fills.now ≡ length lines.now }
     requires room { length lines.now < length blotter.old }
     requires fits { total (blotted order.now (paid pricing) lines.now fills.now contra) < 2 ^ 32 }
-    ensures answer { result ≡ Executed (length (blotted order.now (paid pricing) lines.now fills.now contra)) (total (blotted order.now (paid pricing) lines.now fills.now contra)) }
+    ensures answer { Ok result ≡ answer_of (executed (blotted order.now (paid pricing) lines.now fills.now contra)) }
     ensures after { blotter.new ≡ written_over (blotted order.now (paid pricing) lines.now fills.now contra) blotter.old }
 {
-    let at = note_lines(pricing, lines, fills, blotter);
-    let n = note(Party::Contra, order.price, contra, at, blotter);
-    Settled::Executed {
-        lines: n,
-        total: total_of(&blotter[0..n]),
-    }
+    let mut notes = Notes::new(blotter);
+    notes.note_lines(pricing, lines, fills);
+    notes.note(Fill {
+        party: Party::Contra,
+        price: order.price,
+        contracts: contra,
+    });
+    notes.executed()
 }
 
 // Settles an order against lines that may stand, as they are counted.
@@ -96,14 +97,9 @@ fn settle_counted(
     ensures answer { result ≡ answer_of (settlement order.now lines.now) }
     ensures after { blotter.new ≡ written_over (fills_of (settlement order.now lines.now)) blotter.old }
 {
-    match allocate(&terms_of(order), counted, fills) {
-        Ok(Allocation::Executed(contra)) => {
-            let pricing = pricing_of(order, counted);
-            write_fills(order, lines, pricing, fills, contra, blotter)
-        }
-        Ok(Allocation::Cancelled(reason)) => Settled::Cancelled(reason),
-        Err(_) => unreachable(),
-    }
+    let contra = allocate(&terms_of(order), counted, fills).unwrap()?;
+    let pricing = pricing_of(order, counted);
+    Ok(write_fills(order, lines, pricing, fills, contra, blotter))
 }
 
 // Settles an order against lines in line order: entries of the pool by rising place, then responses. Fills go onto the
@@ -120,6 +116,7 @@ pub fn settle(order: &Order, lines: &[Line], blotter: &mut [Fill]) -> Result<Set
     if blotter.len() < LEAST_BLOTTER {
         return Err(Refusal::BlotterShort);
     }
+    // By hand: an `ArrayVec` of lines would need a `Default` of `Interest`, which cannot be derived beside a ghost field.
     let nobody = Interest {
         gain: 0,
         size: 0,
@@ -127,10 +124,9 @@ pub fn settle(order: &Order, lines: &[Line], blotter: &mut [Fill]) -> Result<Set
         pooled: false,
     };
     let mut table = [nobody; MOST_LINES];
-    let mut fills = [0u32; MOST_LINES];
-    let n = lines.len();
-    let counted = &mut table[0..n];
+    let counted = &mut table[..lines.len()];
     count(order, lines, counted);
-    let settled = settle_counted(order, lines, counted, &mut fills[0..n], blotter);
+    let mut fills = [0u32; MOST_LINES];
+    let settled = settle_counted(order, lines, counted, &mut fills[..lines.len()], blotter);
     Ok(settled)
 }
