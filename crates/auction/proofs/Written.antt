@@ -1,5 +1,5 @@
 -- A blotter as it is written, fill by fill.
-use Rattle.std.proofs.Common.{◌≡◌, ℕ, ◌+◌, ◌≤◌, true, false, cond, eqb, List, [], ◌∷◌, ◌++◌, length, take, drop, ℤ, sym, ap, ◌∙◌, append_assoc, arith, length-append}
+use Rattle.std.proofs.Common.{◌≡◌, ℕ, ◌+◌, ◌≤◌, true, false, cond, eqb, List, [], ◌∷◌, ◌++◌, length, take, drop, ℤ, sym, ap, ◌∙◌, arith, length-append}
 use Rattle.std.proofs.lemmas.List.{drop-drop, take-append-drop}
 use Rattle.market.specs.declared.fill.Party.{Party}
 use Rattle.market.specs.declared.fill.Fill.{Fill}
@@ -13,12 +13,10 @@ noted_few who price n =
     let f : Fill = record { party = who; price = price; contracts = n } in
     elim (eqb n 0) as (λ b. length (cond b [] (f ∷ [])) ≤ 1) [ true ↦ omega arith | false ↦ omega arith ]
 
--- one line on: it is noted behind what was
-pub noted_on : (pays : Line → ℤ) (l : Line) (f : ℕ) (ls ls' : List Line) (fs fs' : List ℕ) (done done' all : List Fill) →
-    ls ≡ l ∷ ls' → fs ≡ f ∷ fs' → done' ≡ done ++ noted l.party (pays l) f → done ++ note_all pays ls fs ≡ all → done' ++ note_all pays ls' fs' ≡ all
-noted_on pays l f ls ls' fs fs' done done' all p q d e =
-    let w : note_all pays ls fs ≡ noted l.party (pays l) f ++ note_all pays ls' fs' = rw (p, q) in
-    rw (d, append_assoc) cc
+-- one line on: it is noted in front of the others
+pub noted_next : (pays : Line → ℤ) (l : Line) (f : ℕ) (price : ℤ) (ls ls' : List Line) (fs fs' : List ℕ) → ls ≡ l ∷ ls' → fs ≡ f ∷ fs' → price ≡ pays l →
+    note_all pays ls fs ≡ noted l.party price f ++ note_all pays ls' fs'
+noted_next pays l f price ls ls' fs fs' p q e = rw (p, q, e)
 
 -- what is the same from one place on is the same from a later one on
 pub same_further : (a b k : ℕ) (now before : List Fill) → b ≡ a + k → drop a now ≡ drop a before → drop b now ≡ drop b before

@@ -61,25 +61,23 @@ impl<'a> Notes<'a> {
             self.at += 1;
         }
     }
-}
 
-impl Notes<'_> {
     // Writes the fills of the lines.
     pub(crate) fn note_lines(&mut self, pricing: Pricing, lines: &[Line], fills: &[u32])
-        requires start { self.old.at ≡ 0 }
         requires long { length fills.now ≡ length lines.now }
-        requires room { length lines.now < length self.old.blotter.now }
+        requires room { self.old.at + length lines.now < length self.old.blotter.now }
         ensures same_reference { self.new.blotter.ghost_name ≡ self.old.blotter.ghost_name }
-        ensures many { self.new.at ≡ length (note_all (paid pricing) lines.now fills.now) }
-        ensures few { self.new.at ≤ length lines.now }
-        ensures front { take self.new.at self.new.blotter.now ≡ note_all (paid pricing) lines.now fills.now }
+        ensures long { length self.new.blotter.now ≡ length self.old.blotter.now }
+        ensures many { self.new.at ≡ self.old.at + length (note_all (paid pricing) lines.now fills.now) }
+        ensures few { self.new.at ≤ self.old.at + length lines.now }
+        ensures front { take self.new.at self.new.blotter.now ≡ take self.old.at self.old.blotter.now ++ note_all (paid pricing) lines.now fills.now }
         ensures rest { drop self.new.at self.new.blotter.now ≡ drop self.new.at self.old.blotter.now }
     {
-        for (line, contracts) in lines.iter().zip(fills) {
+        for (line, &contracts) in lines.iter().zip(fills) {
             self.note(Fill {
                 party: line.party,
                 price: pricing.of(line),
-                contracts: *contracts,
+                contracts,
             });
         }
     }

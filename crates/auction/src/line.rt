@@ -8,7 +8,7 @@ use market::names::Class;
 pub mod ops;
 
 // One who stands against an order: the price in cents, and the contracts that stand.
-#[derive(Clone, Copy)]
+#[derive(Clone, Copy, PartialEq, Eq)]
 pub struct Line {
     pub party: Party,
     pub price: i32,

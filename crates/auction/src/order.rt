@@ -9,7 +9,7 @@ pub mod ops;
 
 // An agency order in auction: its contracts, its price in cents, and the percent of it that is reserved for the
 // facilitator.
-#[derive(Clone, Copy)]
+#[derive(Clone, Copy, PartialEq, Eq)]
 pub struct Order {
     pub mechanism: Mechanism,
     pub side: Side,

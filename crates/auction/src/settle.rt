@@ -42,14 +42,10 @@ fn pricing_of(order: &Order, counted: &[Interest]) -> Pricing
 {
     let gain = gain_at(order.side, order.price);
     match order.mechanism {
-        Mechanism::Facilitation => {
-            if better_total(gain, counted).unwrap() < order.size {
-                Pricing::CustomersAt(order.price)
-            } else {
-                Pricing::Own
-            }
+        Mechanism::Facilitation if better_total(gain, counted).unwrap() < order.size => {
+            Pricing::CustomersAt(order.price)
         }
-        Mechanism::Solicited => Pricing::Own,
+        Mechanism::Facilitation | Mechanism::Solicited => Pricing::Own,
         Mechanism::Block => {
             let best = block_gain(order.size, gain, counted).unwrap();
             Pricing::AllAt(gain_at(order.side, best))
@@ -127,6 +123,5 @@ pub fn settle(order: &Order, lines: &[Line], blotter: &mut [Fill]) -> Result<Set
     let counted = &mut table[..lines.len()];
     count(order, lines, counted);
     let mut fills = [0u32; MOST_LINES];
-    let settled = settle_counted(order, lines, counted, &mut fills[..lines.len()], blotter);
-    Ok(settled)
+    Ok(settle_counted(order, lines, counted, &mut fills[..lines.len()], blotter))
 }
