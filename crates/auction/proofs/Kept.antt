@@ -28,7 +28,7 @@ use Rattle.auction.specs.Gains.{gain, is_customer, is_pooled}
 use Rattle.auction.specs.Lines.{Stands, gain_of, stated_gain, reserved_of, interest_of, interest, contra_of, better_than, from_gain, stands_in_line}
 use Rattle.auction.specs.Settlement.{Outcome, executed, cancelled, blotted, answered, own, facilitation_price, block_price, settle_as, settlement}
 use Rattle.auction.specs.Promises.{executes, Conserved, CustomerThere, BetterThere, left_at, reserved_taken, for_others, LastPrice, CancelledWhen, BlockPriced, Agreed, CrossedWhen, OneSettlement}
-use Rattle.auction.proofs.Noting.{none_some, order_none}
+use Rattle.auction.proofs.Noting.{order_none}
 use Rattle.auction.proofs.Standing.{nth_mapped}
 use Rattle.auction.proofs.Common as common
 
@@ -66,7 +66,7 @@ some_there p o (x ∷ ls) h =
     ⊎_elim (λ t. (x, (0, refl), t)) (λ t. let w = some_there p o ls t in (w.0, (suc w.1.0, w.1.1), w.2)) (or_cases (p (interest_of o x)) (count.some p (interest o ls)) h)
 
 none_there : (p : Interest → Bool) (o : Order) (ls : List Line) → count.some p (interest o ls) ≡ false → (k : Line) → Stands ls k → p (interest_of o k) ≡ true → ⊥
-none_there p o [] h k s t = none_some k s.1
+none_there p o [] h k (i, e) t = cc
 none_there p o (x ∷ ls) h k (zero, e) t =
     let q : x ≡ k = cc in both_ways (p (interest_of o x)) (or_parts (p (interest_of o x)) (count.some p (interest o ls)) h).0 (ap (λ (y : Line). p (interest_of o y)) q ∙ t)
 none_there p o (x ∷ ls) h k (suc i, e) t = none_there p o ls (or_parts (p (interest_of o x)) (count.some p (interest o ls)) h).1 k (i, e) t

@@ -2,7 +2,6 @@
 use Rattle.std.proofs.Common.{◌≡◌, ℕ, ◌+◌, ◌<◌, ◌≤◌, Bool, true, false, not, ◌&&◌, ◌||◌, List, [], ◌∷◌, ◌++◌, length, get_or, take, drop, set, replicate, sym, refl, ap, ◌∙◌, ⊎_elim, subst, arith, get_or-set_other, length-set}
 use lib.ListN.{get_or-replicate}
 use Rattle.std.proofs.lemmas.List.{take_more, at_drop_more, at_drop_all}
-use Rattle.std.proofs.lemmas.List.Recursion.{or_push}
 use Rattle.std.proofs.Math.Bool.{or-false}
 use Rattle.std.proofs.lemmas.Grind.{common_steps}
 use Rattle.std.proofs.lemmas.Bool.{and_parts, and_left, or_right, cond-true, cond_both, cases_Bool, cases_eq}
@@ -12,13 +11,11 @@ use Rattle.market.specs.declared.fill.Party.TheVariants.{Entry, Response, Contra
 use Rattle.auction.specs.declared.line.Line.{Line}
 use Rattle.auction.specs.Lines.{same_party, has_line, may_stand, next_place, in_line_from, stands_in_line}
 use Rattle.auction.specs.Seats.{is_seat, seat_of, free_seat, may_follow, seats_after}
+use Rattle.auction.proofs.Standing.{has_push}
 
 -- each seat is taken exactly where a line in front has it
 abbrev pub Noted : List Bool → List Line → Type 0
 Noted taken before = (m s : ℕ) → is_seat m s ≡ true → get_or taken (seat_of m s) false ≡ has_line (Response m s) before
-
-has_push : (p : Party) (xs : List Line) (y : Line) → has_line p (xs ++ y ∷ []) ≡ has_line p xs || same_party p y.party
-has_push p = or_push (has_line p) (λ (y : Line). same_party p y.party) refl (λ _ _. refl)
 
 -- the members and slots of a seat
 seat_parts : (m s : ℕ) → is_seat m s ≡ true → (1 ≤ m) × (m ≤ 16) × (1 ≤ s) × (s ≤ 4)
@@ -101,9 +98,6 @@ module _ (ls : List Line) (i low : ℕ) (taken : List Bool) (x : Line) (h : i < 
       let a = front.ahead in
       cc
 
-  pub one_off : may_follow low taken x.party ≡ false → false ≡ stands_in_line ls
-  one_off f = sym (step ∙ and_left _ _ f)
-
   pub one_on : (next : ℕ) (seats : List Bool) → may_follow low taken x.party ≡ true → next ≡ next_place x.party → seats ≡ seats_after taken x.party → InFront ls (i + 1) next seats
   one_on next seats t n s =
       let whole : take i ls ++ x ∷ [] ≡ take (i + 1) ls = let m = take_more ls i x h in cc in
@@ -113,6 +107,3 @@ module _ (ls : List Line) (i low : ℕ) (taken : List Bool) (x : Line) (h : i < 
         noted = subst (Noted (seats_after taken x.party)) whole
             (notes taken (take i ls) low front.long front.noted x x.party refl (sym (follows_on taken (take i ls) low front.long front.noted x.party) ∙ t));
       })
-
-pub at_end : (ls : List Line) (i low : ℕ) (taken : List Bool) → length ls ≤ i → InFront ls i low taken → true ≡ stands_in_line ls
-at_end ls i low taken h front = sym (front.ahead ∙ at_drop_all (in_line_from low (take i ls)) ls i h)

@@ -21,13 +21,3 @@ noted_next pays l f price ls ls' fs fs' p q e = rw (p, q, e)
 -- what is the same from one place on is the same from a later one on
 pub same_further : (a b k : ℕ) (now before : List Fill) → b ≡ a + k → drop a now ≡ drop a before → drop b now ≡ drop b before
 same_further a b k now before e same = rw e (sym (drop-drop k a now) ∙ ap (drop k) same ∙ drop-drop k a before)
-
--- two parts written onto a blotter, one behind the other
-pub written_both : (old mid new xs ys : List Fill) (a n : ℕ) → a ≡ length xs → take a mid ≡ xs → drop a mid ≡ drop a old →
-    n ≡ a + length ys → take n new ≡ take a mid ++ ys → drop n new ≡ drop n mid →
-    (n ≡ length (xs ++ ys)) × (take n new ≡ xs ++ ys) × (new ≡ written_over (xs ++ ys) old)
-written_both old mid new xs ys a n ea front rest en both behind =
-    let long : n ≡ length (xs ++ ys) = omega (arith, length-append xs ys) in
-    let all : take n new ≡ xs ++ ys = cc in
-    let last : drop n new ≡ drop n old = behind ∙ same_further a n (length ys) mid old en rest in
-    (long, all, sym (take-append-drop n new) ∙ ap (λ l. l ++ drop n new) all ∙ ap (λ l. (xs ++ ys) ++ l) (last ∙ ap (λ k. drop k old) long))

@@ -88,6 +88,7 @@ fn in_line(lines: &[Line]) -> bool
         low: 1,
         taken: [false; SEATS],
     };
+    // By hand: `all` would take a closure that changes `front` at each line, and is no plainer.
     for line in lines {
         if !front.admit(line.party) {
             return false;
