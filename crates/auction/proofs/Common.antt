@@ -15,6 +15,7 @@ use Rattle.std.proofs.lemmas.List.{length-map}
 use Rattle.std.proofs.lemmas.Int.{ints, by_lt_z}
 use Rattle.std.proofs.lemmas.Bool.{cond-false, cases_lt, both_ways}
 use Rattle.std.specs.declared.option.Option.TheVariants.{Some}
+use Rattle.market.specs.declared.names.Mechanism.TheVariants.{Block, Facilitation, Solicited}
 use Rattle.market.specs.declared.fill.Party.{Party}
 use Rattle.market.specs.declared.fill.Party.TheVariants.{Contra}
 use Rattle.market.specs.declared.fill.Fill.{Fill}
@@ -26,9 +27,9 @@ use Rattle.filling.proofs.Places.{own_other}
 use Rattle.auction.specs.declared.order.Order.{Order}
 use Rattle.auction.specs.declared.line.Line.{Line}
 use Rattle.auction.specs.Gains.{gain, is_customer}
-use Rattle.auction.specs.Lines.{Stands, same_party, gain_of, stated_gain, counted, interest_of, interest, contra_of, others_at, stands_in_line}
-use Rattle.auction.specs.Settlement.{noted, note_all, blotted, total, received}
-use Rattle.auction.specs.Promises.{Allowed, NobodyBeyond, Behind, CustomersFirst, CustomersInLine, BetterFirst, LastPrice, Agreed, AgreedPrice, InOrder, Once, BlotterOrder}
+use Rattle.auction.specs.Lines.{Stands, same_party, gain_of, stated_gain, counted, interest_of, interest, contra_of, better_than, from_gain, others_at, stands_in_line}
+use Rattle.auction.specs.Settlement.{executed, noted, note_all, blotted, total, received}
+use Rattle.auction.specs.Promises.{executes, Allowed, NobodyBeyond, Behind, CustomersFirst, CustomersInLine, BetterFirst, facilitator_share, for_others, LastPrice, CustomerThere, BetterThere, BlockPriced, Agreed, AgreedPrice, CrossedWhen, InOrder, Once, BlotterOrder, OneSettlement}
 use Rattle.auction.proofs.Noting.{all_nth, same_back, total_append, received_append, total_noted, received_noted, total_all, received_none, received_at, each_noted, once_noted, once_more, order_noted}
 use Rattle.auction.proofs.Standing.{apart, no_contra, counted_either, counted_within, nth_more, nth_last, nth_mapped, nth_either}
 
@@ -238,3 +239,48 @@ module _ (o : Order) (ls : List Line) (lined : stands_in_line ls ≡ true)
   -- where all are filled at one price
   pub all_priced : (price : ℤ) → ((k : Line) → pays k ≡ price) → contra ≡ 0 → AllByRecursion (λ f. f.price ≡ price) lines
   all_priced price h none = each_line (λ f. f.price ≡ price) (λ i k e u. h k) (λ u. absurd (let z : ⊥ = omega arith in z))
+
+  -- what differs by the mechanism
+  pub record Differs : Type 0 where
+    pub facilitation : o.mechanism ≡ Facilitation → sum fs + contra ≡ o.size
+    pub solicited : o.mechanism ≡ Solicited → sum fs + contra ≡ o.size
+    pub block : o.mechanism ≡ Block → sum fs + contra ≡ executes o ls (gain_of o)
+    pub prices : GoodPrices
+    pub best : fairness.BestFirst (interest o ls) fs
+    pub share : o.mechanism ≡ Facilitation → contra ≡ facilitator_share o ls
+    pub proportions : (v : ℤ) → gain_of o ≤ℤ v → LastPrice o ls lines v → fairness.InProportion (interest o ls) fs v (for_others o ls v)
+    -- no reason to cancel holds
+    pub no_customer : (o.mechanism ≡ Solicited) × (better_than o ls (gain_of o) < o.size) × CustomerThere o ls × (from_gain o ls (gain_of o) < o.size) → ⊥
+    pub no_better : (o.mechanism ≡ Solicited) × (better_than o ls (gain_of o) < o.size) × (CustomerThere o ls → ⊥) × BetterThere o ls → ⊥
+    pub some : (o.mechanism ≡ Block) × (from_gain o ls (gain_of o) ≡ 0) → ⊥
+    pub priced : o.mechanism ≡ Block → BlockPriced o ls lines
+    pub agreed : (k : Line) → Agreed o ls k (pays k)
+    pub contra_agreed : Agreed o ls (contra_of o) o.price
+    pub crossed : o.mechanism ≡ Solicited → CrossedWhen o ls lines
+
+  -- and all that is promised
+  pub kept : Differs → OneSettlement o ls (executed lines)
+  kept d = record {
+    conserved = record {
+      whole = conserves;
+      facilitation = λ q. filled_in_all ∙ d.facilitation q;
+      solicited = λ q. inl (filled_in_all ∙ d.solicited q);
+      block = λ q. filled_in_all ∙ d.block q;
+    };
+    nobody_beyond = nobody_beyond d.prices;
+    customers_first = customers_first;
+    customers_in_line = customers_in_line;
+    better_first = better_first d.best;
+    facilitators_share = λ q. contra_receives ∙ d.share q;
+    proportions = λ v p. in_proportion v (for_others o ls v) (d.proportions v (last_from v p) p);
+    cancelled_when = record {
+      customer = ((λ q. cc), (λ h. absurd (d.no_customer h)));
+      better = ((λ q. cc), (λ h. absurd (d.no_better h)));
+      none = ((λ q. cc), (λ h. absurd (d.some h)));
+      never = λ why _ q. cc;
+    };
+    block_priced = d.priced;
+    agreed_price = agreed_price d.agreed d.contra_agreed;
+    crossed_when = d.crossed;
+    blotter_order = blotter_order;
+  }
