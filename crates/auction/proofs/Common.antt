@@ -55,7 +55,7 @@ nth_same xs i x y p q = cc
 one_line : (Q : Fill → Type 0) (who : Party) (price : ℤ) (n : ℕ) → (1 ≤ n → Q (record { party = who; price = price; contracts = n })) → AllByRecursion Q (noted who price n)
 one_line Q who price n h =
     elim (eqb n 0) as (λ b. (b ≡ false → 1 ≤ n) → AllByRecursion Q (cond b [] (record { party = who; price = price; contracts = n } ∷ [])))
-    [ true ↦ (λ u. tt) | false ↦ (λ u. (h (u refl), tt)) ] (λ u. let z : 1 ≤ n = grind arith in z)
+    [ true ↦ (λ u. tt) | false ↦ (λ u. (h (u refl), tt)) ] (λ u. grind arith)
 
 module _ (o : Order) (ls : List Line) (lined : stands_in_line ls ≡ true)
     (pays : Line → ℤ) (fs : List ℕ) (contra : ℕ) (fair : Fair o.size (gain_of o) (interest o ls) fs contra) where
@@ -96,7 +96,7 @@ module _ (o : Order) (ls : List Line) (lined : stands_in_line ls ≡ true)
   pub line_priced : (i : ℕ) (k : Line) → slice_get ls i ≡ Some k → 1 ≤ get_or fs i 0 → gain_of o ≤ℤ stated_gain o k
   line_priced i k e h =
       by_lt_z (stated_gain o k) (gain_of o)
-      (λ lt. absurd (let z : ⊥ = omega (arith, fair.none_below i (interest_of o k) (nth_mapped (interest_of o) ls i k e) lt) in z))
+      (λ lt. absurd (omega (arith, fair.none_below i (interest_of o k) (nth_mapped (interest_of o) ls i k e) lt)))
       (λ ge. ge)
 
   pub conserves : total lines + (o.size - total lines) ≡ o.size
@@ -152,7 +152,7 @@ module _ (o : Order) (ls : List Line) (lined : stands_in_line ls ≡ true)
   -- a line that is filled as counted and still short has the whole order
   takes_all : (i : ℕ) (k : Line) → slice_get ls i ≡ Some k → get_or fs i 0 < k.size → counted o k ≤ get_or fs i 0 → get_or fs i 0 ≡ o.size
   takes_all i k e h full =
-      ⊎_elim (λ (q : counted o k ≡ k.size). absurd (let z : ⊥ = omega arith in z)) (λ (q : counted o k ≡ o.size). omega (arith, line_within i k e))
+      ⊎_elim (λ (q : counted o k ≡ k.size). absurd (omega arith)) (λ (q : counted o k ≡ o.size). omega (arith, line_within i k e))
       (counted_either o k)
 
   -- whoever is short, of what it counts or of what stands, leaves those behind it nothing
@@ -196,7 +196,7 @@ module _ (o : Order) (ls : List Line) (lined : stands_in_line ls ≡ true)
       (λ same.
       let q : k ≡ l = nth_same ls i k l ek (ap (slice_get ls) same ∙ el) in
       let w : stated_gain o l <ℤ stated_gain o l = subst (λ (x : Line). stated_gain o l <ℤ stated_gain o x) q worse in
-      let z : ⊥ = omega (arith, ints) in z)
+      omega (arith, ints))
       (λ s. law i j (interest_of o k) (interest_of o l) (nth_mapped (interest_of o) ls i k ek) (nth_mapped (interest_of o) ls j l el) s worse) short
 
   pub customers_in_line : CustomersInLine o ls lines
@@ -238,7 +238,7 @@ module _ (o : Order) (ls : List Line) (lined : stands_in_line ls ≡ true)
 
   -- where all are filled at one price
   pub all_priced : (price : ℤ) → ((k : Line) → pays k ≡ price) → contra ≡ 0 → AllByRecursion (λ f. f.price ≡ price) lines
-  all_priced price h none = each_line (λ f. f.price ≡ price) (λ i k e u. h k) (λ u. absurd (let z : ⊥ = omega arith in z))
+  all_priced price h none = each_line (λ f. f.price ≡ price) (λ i k e u. h k) (λ u. absurd (omega arith))
 
   -- what differs by the mechanism
   pub record Differs : Type 0 where

@@ -72,7 +72,7 @@ module _ (o : Order) (ls : List Line) (lined : stands_in_line ls ≡ true) where
     customers_in_line = λ i j k l ek el lt e ck cl s. refl;
     better_first = λ k l sk sl s w. refl;
     facilitators_share = λ q. absurd (no-fac q);
-    proportions = λ v p. absurd (let z : ⊥ = omega (arith, p.reached.2) in z);
+    proportions = λ v p. absurd (omega (arith, p.reached.2));
     cancelled_when = when;
     block_priced = priced;
     agreed_price = tt;
@@ -118,8 +118,8 @@ module _ (o : Order) (ls : List Line) (lined : stands_in_line ls ≡ true) where
       ⊎_elim
       (λ (few : contracts (better g) is < o.size).
       by_lt_z g k.gain
-      (λ up. absurd (let z : ⊥ = omega (arith, (fac.facilitation).better_filled o.size g r is (omega arith) i k ek up) in z))
-      (λ le. fac_fair.none_below j l el (let z : l.gain <ℤ g = omega (arith, ints) in z)))
+      (λ up. absurd (omega (arith, (fac.facilitation).better_filled o.size g r is (omega arith) i k ek up)))
+      (λ le. fac_fair.none_below j l el (omega (arith, ints))))
       (λ (enough : o.size ≤ contracts (better g) is).
       let same : fac_fills ≡ fill_down o.size is = same_fills fac_fills (fill_down o.size is) fac_contra 0 ((fac.facilitation).better_suffice o.size g r is enough) in
       subst (λ (fs : List ℕ). get_or fs j 0 ≡ 0) (sym same) (filling.best_first o.size is i j k l ek el (subst (λ (fs : List ℕ). get_or fs i 0 < k.size) same short) worse))
@@ -187,12 +187,12 @@ module _ (o : Order) (ls : List Line) (lined : stands_in_line ls ≡ true) where
       let k = w.0 in
       let p = and_parts (is_customer k.class) (le_z g (stated_gain o k)) w.2 in
       let t = p.1 in
-      (k, w.1, p.0, (let z : g ≤ℤ stated_gain o k = grind (arith, ints) in z))
+      (k, w.1, p.0, (grind (arith, ints)))
 
   no_customer : count.some (count.customer_from g) is ≡ false → CustomerThere o ls → ⊥
   no_customer h (k, s, c, le) =
       none_there (count.customer_from g) o ls h k s
-      (and_from (is_customer k.class) (le_z g (stated_gain o k)) c (let z : le_z g (stated_gain o k) ≡ true = grind (arith, ints) in z))
+      (and_from (is_customer k.class) (le_z g (stated_gain o k)) c (grind (arith, ints)))
 
   better_found : count.some (count.pooled_over g) is ≡ true → BetterThere o ls
   better_found h =
@@ -200,12 +200,12 @@ module _ (o : Order) (ls : List Line) (lined : stands_in_line ls ≡ true) where
       let k = w.0 in
       let p = and_parts (is_pooled k.party) (lt_z g (stated_gain o k)) w.2 in
       let t = p.1 in
-      (k, w.1, p.0, (let z : g <ℤ stated_gain o k = grind (arith, ints) in z))
+      (k, w.1, p.0, (grind (arith, ints)))
 
   no_better : count.some (count.pooled_over g) is ≡ false → BetterThere o ls → ⊥
   no_better h (k, s, c, lt) =
       none_there (count.pooled_over g) o ls h k s
-      (and_from (is_pooled k.party) (lt_z g (stated_gain o k)) c (let z : lt_z g (stated_gain o k) ≡ true = grind (arith, ints) in z))
+      (and_from (is_pooled k.party) (lt_z g (stated_gain o k)) c (grind (arith, ints)))
 
   own_agreed : o.mechanism ≡ Solicited → (k : Line) → Agreed o ls k (own k)
   own_agreed m k = record {
@@ -216,7 +216,7 @@ module _ (o : Order) (ls : List Line) (lined : stands_in_line ls ≡ true) where
   }
 
   own_prices : (fs : List ℕ) (c : ℕ) (fair : Fair o.size g is fs c) → common.GoodPrices o ls lined own fs c fair
-  own_prices fs c fair i k e u = (common.line_priced o ls lined own fs c fair i k e u, (let z : stated_gain o k ≤ℤ stated_gain o k = omega (arith, ints) in z))
+  own_prices fs c fair i k e u = (common.line_priced o ls lined own fs c fair i k e u, (omega (arith, ints)))
 
   -- an order that is filled down among its lines
   sol_filled : o.mechanism ≡ Solicited → o.size ≤ from_gain o ls g → (CustomerThere o ls ⊎ (o.size ≤ better_than o ls g)) → AsSolicited (count.executed (fill_down o.size is) 0)
@@ -233,9 +233,9 @@ module _ (o : Order) (ls : List Line) (lined : stands_in_line ls ≡ true) where
         best = filling.best_first o.size is;
         share = λ q. cc;
         proportions = λ v lo p.
-            subst (λ (a : ℕ). fairness.InProportion is fs v a) (let z : left_over o.size is v ≡ for_others o ls v = omega (arith, none_reserved Solicited m refl) in z) (filling.in_proportion o.size is v);
+            subst (λ (a : ℕ). fairness.InProportion is fs v a) (omega (arith, none_reserved Solicited m refl)) (filling.in_proportion o.size is v);
         no_customer = λ h. omega (arith, h.3);
-        no_better = λ h. ⊎_elim (λ c. h.2 c) (λ b. let z : ⊥ = omega (arith, h.1) in z) why;
+        no_better = λ h. ⊎_elim (λ c. h.2 c) (λ b. omega (arith, h.1)) why;
         some = λ h. cc h.0;
         priced = λ q. cc;
         agreed = own_agreed m;
@@ -243,8 +243,8 @@ module _ (o : Order) (ls : List Line) (lined : stands_in_line ls ≡ true) where
         crossed = λ _. record {
           whole = inr (common.contra_receives o ls lined own fs 0 fair);
           crossed = (
-            (λ q. absurd (let z : ⊥ = omega (arith, common.contra_receives o ls lined own fs 0 fair) in z)),
-            (λ h. absurd (⊎_elim (λ c. h.1 c) (λ b. let z : ⊥ = omega (arith, h.0) in z) why)),
+            (λ q. absurd (omega (arith, common.contra_receives o ls lined own fs 0 fair))),
+            (λ h. absurd (⊎_elim (λ c. h.1 c) (λ b. omega (arith, h.0)) why)),
           );
         };
       })
@@ -254,7 +254,7 @@ module _ (o : Order) (ls : List Line) (lined : stands_in_line ls ≡ true) where
 
   -- nothing of it goes to the contra
   not_crossed : (((better_than o ls g < o.size) × (CustomerThere o ls → ⊥) × (BetterThere o ls → ⊥)) → ⊥) → CrossedWhen o ls []
-  not_crossed never = let some_size = o.some in record { whole = inr refl; crossed = ((λ q. absurd (let z : ⊥ = omega arith in z)), (λ h. absurd (never h))) }
+  not_crossed never = let some_size = o.some in record { whole = inr refl; crossed = ((λ q. absurd (omega arith)), (λ h. absurd (never h))) }
 
   sol_customer : o.mechanism ≡ Solicited → better_than o ls g < o.size → CustomerThere o ls → from_gain o ls g < o.size → AsSolicited (count.cancelled CustomerStands)
   sol_customer m few c less =
@@ -293,7 +293,7 @@ module _ (o : Order) (ls : List Line) (lined : stands_in_line ls ≡ true) where
         share = λ q. cc;
         proportions = λ v lo p.
             let s = p.reached.1 in
-            absurd (let z : ⊥ = omega (arith, p.reached.2, common.line_receives o ls lined own fs o.size fair s.0 p.reached.0 s.1, zeros_at is s.0) in z);
+            absurd (omega (arith, p.reached.2, common.line_receives o ls lined own fs o.size fair s.0 p.reached.0 s.1, zeros_at is s.0));
         no_customer = λ h. no_customer none h.2;
         no_better = λ h. b h.3;
         some = λ h. cc h.0;
@@ -343,7 +343,7 @@ module _ (o : Order) (ls : List Line) (lined : stands_in_line ls ≡ true) where
         never = λ r q _. cc;
       })
       (λ q. cc)
-      (λ _. record { price = λ h. absurd (let z : ⊥ = omega arith in z); no_contra = refl })
+      (λ _. record { price = λ h. absurd (omega arith); no_contra = refl })
       (λ q. cc)
 
   block_agreed : o.mechanism ≡ Block → (k : Line) (p : ℤ) → Agreed o ls k p
