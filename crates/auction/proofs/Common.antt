@@ -13,7 +13,8 @@ use Rattle.std.specs.List.{sum, AllByRecursion, slice_get}
 use Rattle.std.proofs.ByRecursion.{All-append}
 use Rattle.std.proofs.lemmas.List.{length-map}
 use Rattle.std.proofs.lemmas.Int.{ints, by_lt_z}
-use Rattle.std.proofs.lemmas.Bool.{cond-false, cases_lt, both_ways}
+use Rattle.std.proofs.lemmas.Bool.{cond_both, cond-false, cases_lt, both_ways}
+use Rattle.std.proofs.lemmas.Bool.Decides.{nat_tests}
 use Rattle.std.specs.declared.option.Option.TheVariants.{Some}
 use Rattle.market.specs.declared.names.Mechanism.TheVariants.{Block, Facilitation, Solicited}
 use Rattle.market.specs.declared.fill.Party.{Party}
@@ -46,7 +47,7 @@ two_of (f ∷ fs) (suc i) zero h = omega (arith, sum_cons f fs, one_of fs i)
 two_of (f ∷ fs) (suc i) (suc j) h = omega (arith, sum_cons f fs, two_of fs i j (λ e. h (ap suc e)))
 
 behind_self : (o : Order) (k : Line) → is_customer k.class ≡ true → Behind o k k → ⊥
-behind_self o k c b = ⊎_elim (λ (w : stated_gain o k <ℤ stated_gain o k). omega (arith, ints)) (λ y. both_ways (is_customer k.class) y.1 c) b
+behind_self o k c b = grind (arith, ints)
 
 nth_same : {X : Type 0} (xs : List X) (i : ℕ) (x y : X) → slice_get xs i ≡ Some x → slice_get xs i ≡ Some y → x ≡ y
 nth_same xs i x y p q = cc
@@ -54,8 +55,7 @@ nth_same xs i x y p q = cc
 -- a test of one blotter line, where there is one
 one_line : (Q : Fill → Type 0) (who : Party) (price : ℤ) (n : ℕ) → (1 ≤ n → Q (record { party = who; price = price; contracts = n })) → AllByRecursion Q (noted who price n)
 one_line Q who price n h =
-    elim (eqb n 0) as (λ b. (b ≡ false → 1 ≤ n) → AllByRecursion Q (cond b [] (record { party = who; price = price; contracts = n } ∷ [])))
-    [ true ↦ (λ u. tt) | false ↦ (λ u. (h (u refl), tt)) ] (λ u. grind arith)
+    cond_both (eqb n 0) [] (record { party = who; price = price; contracts = n } ∷ []) (AllByRecursion Q) (λ _. tt) (λ e. (h (grind (arith, nat_tests)), tt))
 
 module _ (o : Order) (ls : List Line) (lined : stands_in_line ls ≡ true)
     (pays : Line → ℤ) (fs : List ℕ) (contra : ℕ) (fair : Fair o.size (gain_of o) (interest o ls) fs contra) where
@@ -151,9 +151,7 @@ module _ (o : Order) (ls : List Line) (lined : stands_in_line ls ≡ true)
 
   -- a line that is filled as counted and still short has the whole order
   takes_all : (i : ℕ) (k : Line) → slice_get ls i ≡ Some k → get_or fs i 0 < k.size → counted o k ≤ get_or fs i 0 → get_or fs i 0 ≡ o.size
-  takes_all i k e h full =
-      ⊎_elim (λ (q : counted o k ≡ k.size). absurd (omega arith)) (λ (q : counted o k ≡ o.size). omega (arith, line_within i k e))
-      (counted_either o k)
+  takes_all i k e h full = grind (arith, counted_either o k, line_within i k e)
 
   -- whoever is short, of what it counts or of what stands, leaves those behind it nothing
   short_means : (i j : ℕ) (k l : Line) → slice_get ls i ≡ Some k → slice_get ls j ≡ Some l → (i ≡ j → ⊥) →
@@ -161,10 +159,7 @@ module _ (o : Order) (ls : List Line) (lined : stands_in_line ls ≡ true)
   short_means i j k l ek el other law short =
       let less : get_or fs i 0 < k.size = omega (arith, line_receives i k ek) in
       let none : get_or fs j 0 ≡ 0 =
-      ⊎_elim
-      (λ (s : get_or fs i 0 < counted o k). law s)
-      (λ (s : counted o k ≤ get_or fs i 0). omega (arith, takes_all i k ek less s, two_of fs i j other, fair.conserved))
-      (cases_lt (get_or fs i 0) (counted o k)) in
+      ⊎_elim law (λ (s : counted o k ≤ get_or fs i 0). omega (arith, takes_all i k ek less s, two_of fs i j other, fair.conserved)) (cases_lt (get_or fs i 0) (counted o k)) in
       line_receives j l el ∙ none
 
   pub customers_first : CustomersFirst o ls lines

@@ -3,7 +3,7 @@ use Rattle.std.proofs.Common.{◌≡◌, ℕ, zero, suc, ◌+◌, ◌-◌, ◌<�
 use lib.IntN.{neg_ℤ-neg_ℤ}
 use lib.Signed.{lt_z, le_z}
 use Rattle.std.proofs.lemmas.Int.{ints, by_lt_z}
-use Rattle.std.proofs.lemmas.Bool.{cond-true, cond-false, cond_both, leb-true, leb-false, eqb-true, eqb-false, and_parts, and_from, or_cases, or_parts, both_ways, cases_lt, lt-ltb, le-ltb}
+use Rattle.std.proofs.lemmas.Bool.{and_left, and_right, cond-true, cond-false, cond_both, leb-true, leb-false, eqb-true, eqb-false, and_parts, and_from, or_cases, or_parts, both_ways, cases_lt, lt-ltb, le-ltb}
 use Rattle.market.specs.declared.names.Side.{Side}
 use Rattle.market.specs.declared.names.Side.TheVariants.{Buy, Sell}
 use Rattle.market.specs.declared.names.Mechanism.{Mechanism}
@@ -109,9 +109,6 @@ module _ (o : Order) (ls : List Line) (lined : stands_in_line ls ≡ true) where
       let same : g ≡ v = omega (arith, ints) in
       subst (λ (w : ℤ). count.fac_pot o.size g r is w ≡ for_others o ls w) same (omega (arith, taken, (fac.at_order o.size g r is).1)))
 
-  same_fills : (xs ys : List ℕ) (a b : ℕ) → count.executed xs a ≡ count.executed ys b → xs ≡ ys
-  same_fills xs ys a b e = cc
-
   -- better lines come first in a facilitation too
   fac_best : fairness.BestFirst is fac_fills
   fac_best i j k l ek el short worse =
@@ -121,7 +118,7 @@ module _ (o : Order) (ls : List Line) (lined : stands_in_line ls ≡ true) where
       (λ up. absurd (omega (arith, (fac.facilitation).better_filled o.size g r is (omega arith) i k ek up)))
       (λ le. fac_fair.none_below j l el (omega (arith, ints))))
       (λ (enough : o.size ≤ contracts (better g) is).
-      let same : fac_fills ≡ fill_down o.size is = same_fills fac_fills (fill_down o.size is) fac_contra 0 ((fac.facilitation).better_suffice o.size g r is enough) in
+      let same : fac_fills ≡ fill_down o.size is = cc ((fac.facilitation).better_suffice o.size g r is enough) in
       subst (λ (fs : List ℕ). get_or fs j 0 ≡ 0) (sym same) (filling.best_first o.size is i j k l ek el (subst (λ (fs : List ℕ). get_or fs i 0 < k.size) same short) worse))
       (cases_lt (contracts (better g) is) o.size)
 
@@ -141,14 +138,10 @@ module _ (o : Order) (ls : List Line) (lined : stands_in_line ls ≡ true) where
       let c = is_customer k.class in
       let t = ltb (better_than o ls g) o.size in record {
         customer = λ _ few is. cond-true (c && t) o.price k.price (and_from c t is (lt-ltb (better_than o ls g) o.size few));
-        other = λ _ otherwise. cond-false (c && t) o.price k.price (ap (λ b. b && t) otherwise);
-        filled = λ _ enough. let f : t ≡ false = le-ltb (better_than o ls g) o.size enough in cond-false (c && t) o.price k.price (last c t f);
+        other = λ _ otherwise. cond-false (c && t) o.price k.price (and_left c t otherwise);
+        filled = λ _ enough. cond-false (c && t) o.price k.price (and_right c t (le-ltb (better_than o ls g) o.size enough));
         solicited = λ q. cc;
       }
-    where
-      last : (a b : Bool) → b ≡ false → a && b ≡ false
-      last true b f = f
-      last false b f = refl
 
   contra_agreed : Agreed o ls (contra_of o) o.price
   contra_agreed = record { customer = λ _ _ _. refl; other = λ _ _. refl; filled = λ _ _. refl; solicited = λ _. refl }
@@ -184,28 +177,22 @@ module _ (o : Order) (ls : List Line) (lined : stands_in_line ls ≡ true) where
   customer_found : count.some (count.customer_from g) is ≡ true → CustomerThere o ls
   customer_found h =
       let w = some_there (count.customer_from g) o ls h in
-      let k = w.0 in
-      let p = and_parts (is_customer k.class) (le_z g (stated_gain o k)) w.2 in
-      let t = p.1 in
-      (k, w.1, p.0, (grind (arith, ints)))
+      let p = and_parts (is_customer w.0.class) (le_z g (stated_gain o w.0)) w.2 in
+      (w.0, w.1, p.0, grind (arith, ints, p.1))
 
   no_customer : count.some (count.customer_from g) is ≡ false → CustomerThere o ls → ⊥
   no_customer h (k, s, c, le) =
-      none_there (count.customer_from g) o ls h k s
-      (and_from (is_customer k.class) (le_z g (stated_gain o k)) c (grind (arith, ints)))
+      none_there (count.customer_from g) o ls h k s (and_from (is_customer k.class) (le_z g (stated_gain o k)) c (grind (arith, ints)))
 
   better_found : count.some (count.pooled_over g) is ≡ true → BetterThere o ls
   better_found h =
       let w = some_there (count.pooled_over g) o ls h in
-      let k = w.0 in
-      let p = and_parts (is_pooled k.party) (lt_z g (stated_gain o k)) w.2 in
-      let t = p.1 in
-      (k, w.1, p.0, (grind (arith, ints)))
+      let p = and_parts (is_pooled w.0.party) (lt_z g (stated_gain o w.0)) w.2 in
+      (w.0, w.1, p.0, grind (arith, ints, p.1))
 
   no_better : count.some (count.pooled_over g) is ≡ false → BetterThere o ls → ⊥
   no_better h (k, s, c, lt) =
-      none_there (count.pooled_over g) o ls h k s
-      (and_from (is_pooled k.party) (lt_z g (stated_gain o k)) c (grind (arith, ints)))
+      none_there (count.pooled_over g) o ls h k s (and_from (is_pooled k.party) (lt_z g (stated_gain o k)) c (grind (arith, ints)))
 
   own_agreed : o.mechanism ≡ Solicited → (k : Line) → Agreed o ls k (own k)
   own_agreed m k = record {
