@@ -1,11 +1,10 @@
 -- What fair fills of the lines come to on the blotter, whatever the mechanism.
 use Prim.Native.Nat.{ℕ, zero, suc, ◌+◌, ◌-◌, ◌*◌, ◌/◌, ◌<◌, ◌≤◌}
 use mathlib.Core.Path.{◌≡◌, refl, sym, ap, subst, ◌∙◌}
-use mathlib.Core.Bool.{true, false, cond}
+use mathlib.Core.Bool.{true, false}
 use mathlib.Core.List.{List, [], ◌∷◌, ◌++◌}
 use mathlib.Core.Logic.{◌⊎◌, inl, inr, ⊎_elim}
 use native.Mathlib.Omega.{arith}
-use lib.Dec.{eqb}
 use lib.IntN.{ℤ}
 use lib.ListN.{length, get_or}
 use lib.Signed.{◌<ℤ◌, ◌≤ℤ◌}
@@ -13,8 +12,7 @@ use Rattle.std.specs.List.{sum, AllByRecursion, slice_get}
 use Rattle.std.proofs.ByRecursion.{All-append}
 use Rattle.std.proofs.lemmas.List.{length-map}
 use Rattle.std.proofs.lemmas.Int.{ints, by_lt_z}
-use Rattle.std.proofs.lemmas.Bool.{cond_both, cond-false, cases_lt, both_ways}
-use Rattle.std.proofs.lemmas.Bool.Decides.{nat_tests}
+use Rattle.std.proofs.lemmas.Bool.{cond-false, cases_lt, both_ways}
 use Rattle.std.specs.declared.option.Option.TheVariants.{Some}
 use Rattle.market.specs.declared.names.Mechanism.TheVariants.{Block, Facilitation, Solicited}
 use Rattle.market.specs.declared.fill.Party.{Party}
@@ -31,7 +29,7 @@ use Rattle.auction.specs.Gains.{gain, is_customer}
 use Rattle.auction.specs.Lines.{Stands, same_party, gain_of, stated_gain, counted, interest_of, interest, contra_of, better_than, from_gain, others_at, stands_in_line}
 use Rattle.auction.specs.Settlement.{executed, noted, note_all, blotted, total, received}
 use Rattle.auction.specs.Promises.{executes, Allowed, NobodyBeyond, Behind, CustomersFirst, CustomersInLine, BetterFirst, facilitator_share, for_others, LastPrice, CustomerThere, BetterThere, BlockPriced, Agreed, AgreedPrice, CrossedWhen, InOrder, Once, BlotterOrder, OneSettlement}
-use Rattle.auction.proofs.Noting.{all_nth, same_back, total_append, received_append, total_noted, received_noted, total_all, received_none, received_at, each_noted, once_noted, once_more, order_noted}
+use Rattle.auction.proofs.Noting.{all_nth, same_back, total_append, received_append, noted_either, total_noted, received_noted, total_all, received_none, received_at, each_noted, once_noted, once_more, order_noted}
 use Rattle.auction.proofs.Standing.{apart, no_contra, counted_either, counted_within, nth_more, nth_last, nth_mapped, nth_either}
 
 one_of : (fs : List ℕ) (i : ℕ) → get_or fs i 0 ≤ sum fs
@@ -54,8 +52,7 @@ nth_same xs i x y p q = cc
 
 -- a test of one blotter line, where there is one
 one_line : (Q : Fill → Type 0) (who : Party) (price : ℤ) (n : ℕ) → (1 ≤ n → Q (record { party = who; price = price; contracts = n })) → AllByRecursion Q (noted who price n)
-one_line Q who price n h =
-    cond_both (eqb n 0) [] (record { party = who; price = price; contracts = n } ∷ []) (AllByRecursion Q) (λ _. tt) (λ e. (h (grind (arith, nat_tests)), tt))
+one_line Q who price n h = noted_either (AllByRecursion Q) who price n (λ _. tt) (λ u. (h u, tt))
 
 module _ (o : Order) (ls : List Line) (lined : stands_in_line ls ≡ true)
     (pays : Line → ℤ) (fs : List ℕ) (contra : ℕ) (fair : Fair o.size (gain_of o) (interest o ls) fs contra) where
@@ -202,14 +199,14 @@ module _ (o : Order) (ls : List Line) (lined : stands_in_line ls ≡ true)
   once : Once lines
   once =
       once_more (note_all pays ls fs) (noted Contra o.price contra) (once_noted pays ls fs (apart ls lined))
-      (elim (eqb contra 0) as (λ b. Once (cond b [] (record { party = Contra; price = o.price; contracts = contra } ∷ []))) [ true ↦ tt | false ↦ (tt, tt) ])
+      (noted_either Once Contra o.price contra (λ _. tt) (λ _. (tt, tt)))
       (each_noted pays (λ f. AllByRecursion (λ h. same_party f.party h.party ≡ false) (noted Contra o.price contra)) ls fs
       (λ i k e u. one_line (λ h. same_party k.party h.party ≡ false) Contra o.price contra (λ _. not_contra i k e)))
 
   in_order : InOrder (ls ++ contra_of o ∷ []) lines
   in_order =
       order_noted pays ls fs (contra_of o ∷ []) (noted Contra o.price contra)
-      (elim (eqb contra 0) as (λ b. InOrder (contra_of o ∷ []) (cond b [] (record { party = Contra; price = o.price; contracts = contra } ∷ []))) [ true ↦ tt | false ↦ inl (refl, tt) ])
+      (noted_either (InOrder (contra_of o ∷ [])) Contra o.price contra (λ _. tt) (λ _. inl (refl, tt)))
 
   pub blotter_order : BlotterOrder o ls lines
   blotter_order = record { in_order = in_order; once = once; some = each_line (λ f. 1 ≤ f.contracts) (λ i k e u. u) (λ u. u) }

@@ -8,7 +8,6 @@ use Rattle.market.specs.declared.names.Side.{Side}
 use Rattle.market.specs.declared.names.Side.TheVariants.{Buy, Sell}
 use Rattle.market.specs.declared.names.Mechanism.{Mechanism}
 use Rattle.market.specs.declared.names.Mechanism.TheVariants.{Block, Facilitation, Solicited}
-use Rattle.market.specs.declared.fill.Fill.{Fill}
 use Rattle.market.specs.declared.fill.Reason.{Reason}
 use Rattle.market.specs.declared.fill.Reason.TheVariants.{CustomerStands, BetterStands, NoInterest}
 use Rattle.filling.specs.declared.interest.Interest.{Interest}
@@ -26,8 +25,8 @@ use Rattle.auction.specs.declared.line.Line.{Line}
 use Rattle.auction.specs.Limits.{is_facilitation}
 use Rattle.auction.specs.Gains.{gain, is_customer, is_pooled}
 use Rattle.auction.specs.Lines.{Stands, gain_of, stated_gain, reserved_of, interest_of, interest, contra_of, better_than, from_gain, stands_in_line}
-use Rattle.auction.specs.Settlement.{Outcome, executed, cancelled, blotted, answered, own, facilitation_price, block_price, settle_as, settlement}
-use Rattle.auction.specs.Promises.{executes, Conserved, CustomerThere, BetterThere, left_at, reserved_taken, for_others, LastPrice, CancelledWhen, BlockPriced, Agreed, CrossedWhen, OneSettlement}
+use Rattle.auction.specs.Settlement.{Outcome, cancelled, answered, own, facilitation_price, block_price, settle_as, settlement}
+use Rattle.auction.specs.Promises.{executes, Conserved, CustomerThere, BetterThere, left_at, reserved_taken, for_others, CancelledWhen, BlockPriced, Agreed, CrossedWhen, OneSettlement}
 use Rattle.auction.proofs.Noting.{order_none}
 use Rattle.auction.proofs.Standing.{nth_mapped}
 use Rattle.auction.proofs.Common as common

@@ -1,5 +1,5 @@
 -- Fills of lines, and the blotter lines that they make.
-use Rattle.std.proofs.Common.{◌≡◌, ℕ, zero, suc, ◌+◌, ◌≤◌, true, false, cond, eqb, List, [], ◌∷◌, ◌++◌, length, get_or, ℤ, Some, None, sum, Option, sym, refl, ap, ◌∙◌, subst, inl, inr, arith}
+use Rattle.std.proofs.Common.{◌≡◌, ℕ, zero, suc, ◌+◌, ◌≤◌, true, false, cond, eqb, List, [], ◌∷◌, ◌++◌, length, get_or, ℤ, Some, sum, sym, refl, ap, ◌∙◌, subst, inl, inr, arith}
 use Rattle.std.specs.List.{AllByRecursion, slice_get}
 use Rattle.std.proofs.ByRecursion.{All-append}
 use Rattle.std.proofs.lemmas.List.Sums.{sum_by-append}
@@ -51,14 +51,16 @@ pub received_append : (p : Party) (xs ys : List Fill) → received p (xs ++ ys) 
 received_append p [] ys = omega arith
 received_append p (x ∷ xs) ys = omega (arith, received_append p xs ys)
 
+-- contracts make no line or one
+pub noted_either : (P : List Fill → Type 0) (who : Party) (price : ℤ) (n : ℕ) → (n ≡ 0 → P []) → (1 ≤ n → P (record { party = who; price = price; contracts = n } ∷ [])) → P (noted who price n)
+noted_either P who price n none some =
+    cond_both (eqb n 0) [] (record { party = who; price = price; contracts = n } ∷ []) P (λ e. none (eqb-true n 0 e)) (λ e. some (grind (arith, nat_tests)))
+
 pub total_noted : (who : Party) (price : ℤ) (n : ℕ) → total (noted who price n) ≡ n
-total_noted who price n =
-    cond_both (eqb n 0) [] (record { party = who; price = price; contracts = n } ∷ []) (λ fs. total fs ≡ n) (λ h. grind (arith, nat_tests)) (λ h. omega arith)
+total_noted who price n = noted_either (λ fs. total fs ≡ n) who price n (λ z. sym z) (λ _. omega arith)
 
 pub received_noted : (p who : Party) (price : ℤ) (n : ℕ) → received p (noted who price n) ≡ cond (same_party p who) n 0
-received_noted p who price n =
-    cond_both (eqb n 0) [] (record { party = who; price = price; contracts = n } ∷ []) (λ fs. received p fs ≡ cond (same_party p who) n 0)
-    (λ h. let z = eqb-true n 0 h in grind (arith, nat_tests)) (λ h. omega arith)
+received_noted p who price n = noted_either (λ fs. received p fs ≡ cond (same_party p who) n 0) who price n (λ z. grind (arith, nat_tests)) (λ _. omega arith)
 
 pub order_none : (is : List Line) → InOrder is []
 order_none [] = tt
@@ -123,9 +125,8 @@ module _ (pays : Line → ℤ) where
   each_noted Q [] fs h = tt
   each_noted Q (x ∷ is) [] h = tt
   each_noted Q (x ∷ is) (f ∷ fs) h =
-      let line : Fill = record { party = x.party; price = pays x; contracts = f } in
       let later : AllByRecursion Q (note_all pays is fs) = each_noted Q is fs (λ i. h (suc i)) in
-      cond_both (eqb f 0) [] (line ∷ []) (λ xs. AllByRecursion Q (xs ++ note_all pays is fs)) (λ _. later) (λ e. (h 0 x refl (grind (arith, nat_tests)), later))
+      noted_either (λ xs. AllByRecursion Q (xs ++ note_all pays is fs)) x.party (pays x) f (λ _. later) (λ u. (h 0 x refl u, later))
 
   pub once_noted : (is : List Line) (fs : List ℕ) → Apart is → Once (note_all pays is fs)
   once_noted [] fs a = tt
@@ -134,8 +135,7 @@ module _ (pays : Line → ℤ) where
       let later : Once (note_all pays is fs) = once_noted is fs a.1 in
       let apart : AllByRecursion (λ h. same_party x.party h.party ≡ false) (note_all pays is fs) =
       each_noted (λ h. same_party x.party h.party ≡ false) is fs (λ i k e u. all_nth (λ y. same_party x.party y.party ≡ false) is i k e a.0) in
-      elim (eqb f 0) as (λ b. Once (cond b [] (record { party = x.party; price = pays x; contracts = f } ∷ []) ++ note_all pays is fs))
-      [ true ↦ later | false ↦ (apart, later) ]
+      noted_either (λ xs. Once (xs ++ note_all pays is fs)) x.party (pays x) f (λ _. later) (λ _. (apart, later))
 
   -- the lines come in order, with more behind them
   pub order_noted : (is : List Line) (fs : List ℕ) (later : List Line) (more : List Fill) → InOrder later more → InOrder (is ++ later) (note_all pays is fs ++ more)
@@ -143,8 +143,8 @@ module _ (pays : Line → ℤ) where
   order_noted (x ∷ is) [] later more h = order_skip x (is ++ later) more (order_skips is later more h)
   order_noted (x ∷ is) (f ∷ fs) later more h =
       let ih : InOrder (is ++ later) (note_all pays is fs ++ more) = order_noted is fs later more h in
-      elim (eqb f 0) as (λ b. InOrder (x ∷ is ++ later) ((cond b [] (record { party = x.party; price = pays x; contracts = f } ∷ []) ++ note_all pays is fs) ++ more))
-      [ true ↦ order_skip x (is ++ later) (note_all pays is fs ++ more) ih | false ↦ inl (refl, ih) ]
+      noted_either (λ xs. InOrder (x ∷ is ++ later) ((xs ++ note_all pays is fs) ++ more)) x.party (pays x) f
+      (λ _. order_skip x (is ++ later) (note_all pays is fs ++ more) ih) (λ _. inl (refl, ih))
 
 -- one line more, of a party that has none
 pub once_more : (xs ys : List Fill) → Once xs → Once ys → AllByRecursion (λ f. AllByRecursion (λ h. same_party f.party h.party ≡ false) ys) xs → Once (xs ++ ys)

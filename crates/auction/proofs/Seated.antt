@@ -1,7 +1,7 @@
 -- The seats that are taken tell who may stand next.
 use Rattle.std.proofs.Common.{◌≡◌, ℕ, ◌+◌, ◌<◌, ◌≤◌, Bool, true, false, not, ◌&&◌, ◌||◌, List, [], ◌∷◌, ◌++◌, length, get_or, take, drop, set, replicate, sym, refl, ap, ◌∙◌, ⊎_elim, subst, arith, get_or-set_other, length-set}
 use lib.ListN.{get_or-replicate}
-use Rattle.std.proofs.lemmas.List.{take_more, at_drop_more, at_drop_all}
+use Rattle.std.proofs.lemmas.List.{take_more, at_drop_more}
 use Rattle.std.proofs.Math.Bool.{or-false}
 use Rattle.std.proofs.lemmas.Grind.{common_steps}
 use Rattle.std.proofs.lemmas.Bool.{and_parts, and_left, or_right, cond-true, cond_both, cases_Bool, cases_eq}

@@ -3,7 +3,7 @@ use Rattle.std.proofs.Common.{◌≡◌, ℕ, ◌<◌, ◌≤◌, Bool, true, fa
 use mathlib.Core.Path.{fun_ext}
 use Rattle.std.proofs.Math.Seq.{take-append_seam}
 use Rattle.std.proofs.lemmas.List.{length-map}
-use Rattle.std.proofs.lemmas.Bool.{and_parts, cond-true}
+use Rattle.std.proofs.lemmas.Bool.{and_parts, and_right, cond-true, cond-false}
 use Rattle.std.proofs.lemmas.Bool.Decides.{nat_tests}
 use Rattle.market.specs.declared.names.Mechanism.{Mechanism}
 use Rattle.market.specs.declared.names.Mechanism.TheVariants.{Block, Facilitation, Solicited}
@@ -37,12 +37,12 @@ executed_is (count.executed fs d) c fills out e f = cc
 executed_is (count.cancelled r) c fills out e f = cc
 
 -- lines are priced as the rule says
-fac_paid : (t c : Bool) (p q : ℤ) (l : Line) → is_customer l.class ≡ c → paid (cond t (CustomersAt p) Own) l ≡ cond (is_customer l.class && t) p l.price
-fac_paid true c p q l e = elim (is_customer l.class) as (λ b. cond b p l.price ≡ cond (b && true) p l.price) [ true ↦ refl | false ↦ refl ]
-fac_paid false c p q l e = elim (is_customer l.class) as (λ b. l.price ≡ cond (b && false) p l.price) [ true ↦ refl | false ↦ refl ]
+fac_paid : (t : Bool) (p : ℤ) (l : Line) → paid (cond t (CustomersAt p) Own) l ≡ cond (is_customer l.class && t) p l.price
+fac_paid true p l = elim (is_customer l.class) as (λ b. cond b p l.price ≡ cond (b && true) p l.price) [ true ↦ refl | false ↦ refl ]
+fac_paid false p l = sym (cond-false (is_customer l.class && false) p l.price (and_right (is_customer l.class) false refl))
 
 pub paid_is : (m : Mechanism) (o : Order) (ls : List Line) → paid (pricing_in m o (interest o ls)) ≡ price_in m o ls
-paid_is Facilitation o ls = fun_ext (λ l. fac_paid (ltb (better_than o ls (gain_of o)) o.size) (is_customer l.class) o.price o.price l refl)
+paid_is Facilitation o ls = fun_ext (λ l. fac_paid (ltb (better_than o ls (gain_of o)) o.size) o.price l)
 paid_is Solicited o ls = refl
 paid_is Block o ls = refl
 

@@ -1,17 +1,15 @@
 -- A blotter as it is written, fill by fill.
-use Rattle.std.proofs.Common.{◌≡◌, ℕ, ◌+◌, ◌≤◌, true, false, cond, eqb, List, [], ◌∷◌, ◌++◌, length, take, drop, ℤ, sym, ap, ◌∙◌, arith, length-append}
-use Rattle.std.proofs.lemmas.List.{drop-drop, take-append-drop}
+use Rattle.std.proofs.Common.{◌≡◌, ℕ, ◌+◌, ◌≤◌, List, ◌∷◌, ◌++◌, length, drop, ℤ, sym, ap, ◌∙◌, arith}
+use Rattle.std.proofs.lemmas.List.{drop-drop}
 use Rattle.market.specs.declared.fill.Party.{Party}
 use Rattle.market.specs.declared.fill.Fill.{Fill}
 use Rattle.auction.specs.declared.line.Line.{Line}
 use Rattle.auction.specs.Settlement.{noted, note_all}
-use Rattle.auction.specs.Answers.{written_over}
+use Rattle.auction.proofs.Noting.{noted_either}
 
 -- at most one line
 pub noted_few : (who : Party) (price : ℤ) (n : ℕ) → length (noted who price n) ≤ 1
-noted_few who price n =
-    let f : Fill = record { party = who; price = price; contracts = n } in
-    elim (eqb n 0) as (λ b. length (cond b [] (f ∷ [])) ≤ 1) [ true ↦ omega arith | false ↦ omega arith ]
+noted_few who price n = noted_either (λ fs. length fs ≤ 1) who price n (λ _. omega arith) (λ _. omega arith)
 
 -- one line on: it is noted in front of the others
 pub noted_next : (pays : Line → ℤ) (l : Line) (f : ℕ) (price : ℤ) (ls ls' : List Line) (fs fs' : List ℕ) → ls ≡ l ∷ ls' → fs ≡ f ∷ fs' → price ≡ pays l →

@@ -9,7 +9,7 @@ use market::fill::Fill;
 use market::names::Class;
 
 // The price of each line: its own, the order's for customers and its own for others, or one for all.
-// By hand: a function from a line to its price would be a closure that `pricing_of` hands out, which is refused.
+// By hand: as a closure it could not be handed out of `pricing_of`, and taken in it would need a call for each kind.
 #[derive(Clone, Copy)]
 pub(crate) enum Pricing {
     Own,
