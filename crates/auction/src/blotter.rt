@@ -1,5 +1,5 @@
 // Writing fills onto a blotter.
-ghost use Rattle.std.specs.Prelude.{◌≡◌, ℕ, ◌+◌, ◌^◌, ◌<◌, ◌≤◌, List, [], ◌++◌, length, take, drop, ℤ};
+ghost use Rattle.std.specs.Prelude.{◌≡◌, ◌+◌, ◌^◌, ◌<◌, ◌≤◌, ◌++◌, length, take, drop};
 ghost use Rattle.auction.specs.Settlement.{noted, note_all, total};
 ghost use Rattle.auction.specs.Pricing.{paid};
 

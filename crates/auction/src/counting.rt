@@ -1,7 +1,7 @@
 // Lines as they are counted.
-ghost use Rattle.std.specs.Prelude.{◌≡◌, ℕ, ◌≤◌, List, length, ℤ, ◌≤ℤ◌};
+ghost use Rattle.std.specs.Prelude.{◌≡◌, length, ◌≤ℤ◌};
 ghost use Rattle.market.specs.Limits.{lowest_price};
-ghost use Rattle.auction.specs.Gains.{gain, is_customer, is_pooled};
+ghost use Rattle.auction.specs.Gains.{gain};
 ghost use Rattle.auction.specs.Lines.{reserved_of, counted, interest_of, interest};
 
 use super::line::Line;

@@ -1,5 +1,5 @@
 // Interest against an order.
-ghost use Rattle.std.specs.Prelude.{ℕ, ◌≤◌, ℤ, ◌≤ℤ◌};
+ghost use Rattle.std.specs.Prelude.{◌≤◌, ℤ, ◌≤ℤ◌};
 ghost use Rattle.market.specs.Limits.{lowest_price, highest_price, most_size};
 
 use market::fill::Party;

@@ -1,5 +1,5 @@
 // Lines in line order: entries of the pool by rising place, then responses, each member's slot once.
-ghost use Rattle.std.specs.Prelude.{◌≡◌, ℕ, ◌<◌, ◌≤◌, true, false, not, ◌&&◌};
+ghost use Rattle.std.specs.Prelude.{◌≡◌, ◌<◌, true};
 ghost use Rattle.auction.specs.Lines.{next_place, stands_in_line, lawful};
 ghost use Rattle.auction.specs.Seats.{is_seat, seat_of, free_seat, may_follow, seats_after};
 

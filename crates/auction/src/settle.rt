@@ -1,9 +1,9 @@
 // Settling an order.
-ghost use Rattle.std.specs.Prelude.{◌≡◌, ℕ, ◌^◌, ◌<◌, ◌≤◌, true, List, length, Ok};
+ghost use Rattle.std.specs.Prelude.{◌≡◌, ◌≤◌, true, length};
 ghost use Rattle.auction.specs.Lines.{interest, lawful};
 ghost use Rattle.auction.specs.Terms.{terms_of};
-ghost use Rattle.auction.specs.Pricing.{pricing_in, paid};
-ghost use Rattle.auction.specs.Settlement.{executed, settlement, blotted, fills_of, total};
+ghost use Rattle.auction.specs.Pricing.{pricing_in};
+ghost use Rattle.auction.specs.Settlement.{settlement, fills_of};
 ghost use Rattle.auction.specs.Answers.{answer_of, written_over, settle_answer, after_settle, Keeps};
 
 use super::blotter::{Notes, Pricing};
@@ -12,7 +12,7 @@ use super::limits::LEAST_BLOTTER;
 use super::line::Line;
 use super::order::Order;
 use super::seats::can_stand;
-use super::settled::{Executed, Settled};
+use super::settled::Settled;
 use deal::allocate::allocate;
 use deal::better::better_total;
 use deal::block::block_gain;
@@ -53,31 +53,6 @@ fn pricing_of(order: &Order, counted: &[Interest]) -> Pricing
     }
 }
 
-// Writes the fills of an order that executes onto the blotter, the contra's last.
-fn write_fills(
-    order: &Order,
-    lines: &[Line],
-    pricing: Pricing,
-    fills: &[u32],
-    contra: u32,
-    blotter: &mut [Fill],
-) -> Executed
-    requires long { length fills.now ≡ length lines.now }
-    requires room { length lines.now < length blotter.old }
-    requires fits { total (blotted order.now (paid pricing) lines.now fills.now contra) < 2 ^ 32 }
-    ensures answer { Ok result ≡ answer_of (executed (blotted order.now (paid pricing) lines.now fills.now contra)) }
-    ensures after { blotter.new ≡ written_over (blotted order.now (paid pricing) lines.now fills.now contra) blotter.old }
-{
-    let mut notes = Notes::new(blotter);
-    notes.note_lines(pricing, lines, fills);
-    notes.note(Fill {
-        party: Party::Contra,
-        price: order.price,
-        contracts: contra,
-    });
-    notes.executed()
-}
-
 // Settles an order against lines that may stand, as they are counted.
 fn settle_counted(
     order: &Order,
@@ -94,8 +69,14 @@ fn settle_counted(
     ensures after { blotter.new ≡ written_over (fills_of (settlement order.now lines.now)) blotter.old }
 {
     let contra = allocate(&terms_of(order), counted, fills).unwrap()?;
-    let pricing = pricing_of(order, counted);
-    Ok(write_fills(order, lines, pricing, fills, contra, blotter))
+    let mut notes = Notes::new(blotter);
+    notes.note_lines(pricing_of(order, counted), lines, fills);
+    notes.note(Fill {
+        party: Party::Contra,
+        price: order.price,
+        contracts: contra,
+    });
+    Ok(notes.executed())
 }
 
 // Settles an order against lines in line order: entries of the pool by rising place, then responses. Fills go onto the
