@@ -47,9 +47,6 @@ two_of (f ∷ fs) (suc i) (suc j) h = omega (arith, sum_cons f fs, two_of fs i j
 behind_self : (o : Order) (k : Line) → is_customer k.class ≡ true → Behind o k k → ⊥
 behind_self o k c b = grind (arith, ints)
 
-nth_same : {X : Type 0} (xs : List X) (i : ℕ) (x y : X) → slice_get xs i ≡ Some x → slice_get xs i ≡ Some y → x ≡ y
-nth_same xs i x y p q = cc
-
 -- a test of one blotter line, where there is one
 one_line : (Q : Fill → Type 0) (who : Party) (price : ℤ) (n : ℕ) → (1 ≤ n → Q (record { party = who; price = price; contracts = n })) → AllByRecursion Q (noted who price n)
 one_line Q who price n h = noted_either (AllByRecursion Q) who price n (λ _. tt) (λ u. (h u, tt))
@@ -83,8 +80,12 @@ module _ (o : Order) (ls : List Line) (lined : stands_in_line ls ≡ true)
         received_at pays ls fs (apart ls lined) i k e,
       )
 
+  -- a line as it is counted
+  at : (i : ℕ) (k : Line) → slice_get ls i ≡ Some k → slice_get (interest o ls) i ≡ Some (interest_of o k)
+  at = nth_mapped (interest_of o) ls
+
   line_within : (i : ℕ) (k : Line) → slice_get ls i ≡ Some k → get_or fs i 0 ≤ counted o k
-  line_within i k e = fair.within i (interest_of o k) (nth_mapped (interest_of o) ls i k e)
+  line_within i k e = fair.within i (interest_of o k) (at i k e)
 
   line_standing : (i : ℕ) (k : Line) → slice_get ls i ≡ Some k → get_or fs i 0 ≤ k.size
   line_standing i k e = omega (arith, line_within i k e, counted_within o k)
@@ -93,7 +94,7 @@ module _ (o : Order) (ls : List Line) (lined : stands_in_line ls ≡ true)
   pub line_priced : (i : ℕ) (k : Line) → slice_get ls i ≡ Some k → 1 ≤ get_or fs i 0 → gain_of o ≤ℤ stated_gain o k
   line_priced i k e h =
       by_lt_z (stated_gain o k) (gain_of o)
-      (λ lt. absurd (omega (arith, fair.none_below i (interest_of o k) (nth_mapped (interest_of o) ls i k e) lt)))
+      (λ lt. absurd (omega (arith, fair.none_below i (interest_of o k) (at i k e) lt)))
       (λ ge. ge)
 
   pub conserves : total lines + (o.size - total lines) ≡ o.size
@@ -150,51 +151,44 @@ module _ (o : Order) (ls : List Line) (lined : stands_in_line ls ≡ true)
   takes_all : (i : ℕ) (k : Line) → slice_get ls i ≡ Some k → get_or fs i 0 < k.size → counted o k ≤ get_or fs i 0 → get_or fs i 0 ≡ o.size
   takes_all i k e h full = grind (arith, counted_either o k, line_within i k e)
 
-  -- whoever is short, of what it counts or of what stands, leaves those behind it nothing
+  -- whoever is short, of what it counts or of what stands, leaves another nothing
+  leaves : (i : ℕ) (k : Line) (n : ℕ) → slice_get ls i ≡ Some k → get_or fs i 0 + n ≤ sum fs + contra → (get_or fs i 0 < counted o k → n ≡ 0) →
+      received k.party lines < k.size → n ≡ 0
+  leaves i k n e both law short =
+      let less : get_or fs i 0 < k.size = omega (arith, line_receives i k e) in
+      ⊎_elim law (λ (s : counted o k ≤ get_or fs i 0). omega (arith, takes_all i k e less s, fair.conserved)) (cases_lt (get_or fs i 0) (counted o k))
+
   short_means : (i j : ℕ) (k l : Line) → slice_get ls i ≡ Some k → slice_get ls j ≡ Some l → (i ≡ j → ⊥) →
       (get_or fs i 0 < counted o k → get_or fs j 0 ≡ 0) → received k.party lines < k.size → received l.party lines ≡ 0
   short_means i j k l ek el other law short =
-      let less : get_or fs i 0 < k.size = omega (arith, line_receives i k ek) in
-      let none : get_or fs j 0 ≡ 0 =
-      ⊎_elim law (λ (s : counted o k ≤ get_or fs i 0). omega (arith, takes_all i k ek less s, two_of fs i j other, fair.conserved)) (cases_lt (get_or fs i 0) (counted o k)) in
-      line_receives j l el ∙ none
+      line_receives j l el ∙ leaves i k (get_or fs j 0) ek (omega (arith, two_of fs i j other)) law short
+
+  -- two who stand at one place are one
+  one_there : (i j : ℕ) (k l : Line) → slice_get ls i ≡ Some k → slice_get ls j ≡ Some l → i ≡ j → k ≡ l
+  one_there i j k l ek el same = let e = ap (slice_get ls) same in cc
 
   pub customers_first : CustomersFirst o ls lines
-  customers_first k l sk sl c short behind =
-      let i = sk.0 in
-      let ek = sk.1 in
-      let lk : slice_get (interest o ls) i ≡ Some (interest_of o k) = nth_mapped (interest_of o) ls i k ek in
-      let less : get_or fs i 0 < k.size = omega (arith, line_receives i k ek) in
+  customers_first k l (i, ek) (j, e) c short behind =
       ⊎_elim
-      (λ (el : slice_get ls sl.0 ≡ Some l).
-      let j = sl.0 in
-      short_means i j k l ek el
-      (λ same. behind_self o k c (subst (λ (x : Line). Behind o k x) (sym (nth_same ls i k l ek (ap (slice_get ls) same ∙ el))) behind))
-      (λ s. fair.customers_first i j (interest_of o k) (interest_of o l) lk (nth_mapped (interest_of o) ls j l el) c s behind) short)
+      (λ (el : slice_get ls j ≡ Some l).
+      short_means i j k l ek el (λ same. behind_self o k c (subst (λ (x : Line). Behind o k x) (sym (one_there i j k l ek el same)) behind))
+      (λ s. fair.customers_first i j (interest_of o k) (interest_of o l) (at i k ek) (at j l el) c s behind) short)
       (λ (same : contra_of o ≡ l).
       let b : Behind o k (contra_of o) = subst (λ (x : Line). Behind o k x) (sym same) behind in
-      let le : gain_of o ≤ℤ stated_gain o k = ⊎_elim (λ (w : gain_of o <ℤ stated_gain o k). omega (arith, ints)) (λ (y : (gain_of o ≡ stated_gain o k) × (false ≡ false)). let q = y.0 in omega (arith, ints)) b in
-      let none : contra ≡ 0 =
-      ⊎_elim
-      (λ (s : get_or fs i 0 < counted o k). fair.contra_last i (interest_of o k) lk c s le)
-      (λ (s : counted o k ≤ get_or fs i 0). omega (arith, takes_all i k ek less s, one_of fs i, fair.conserved))
-      (cases_lt (get_or fs i 0) (counted o k)) in
-      ap (λ (x : Line). received x.party lines) (sym same) ∙ contra_receives ∙ none)
-      (nth_either ls (contra_of o) sl.0 l sl.1)
+      let le : gain_of o ≤ℤ stated_gain o k = grind (arith, ints) in
+      ap (λ (x : Line). received x.party lines) (sym same) ∙ contra_receives
+      ∙ leaves i k contra ek (omega (arith, one_of fs i)) (λ s. fair.contra_last i (interest_of o k) (at i k ek) c s le) short)
+      (nth_either ls (contra_of o) j l e)
 
   pub better_first : fairness.BestFirst (interest o ls) fs → BetterFirst o ls lines
   better_first law k l (i, ek) (j, el) short worse =
       short_means i j k l ek el
-      (λ same.
-      let q : k ≡ l = nth_same ls i k l ek (ap (slice_get ls) same ∙ el) in
-      let w : stated_gain o l <ℤ stated_gain o l = subst (λ (x : Line). stated_gain o l <ℤ stated_gain o x) q worse in
-      omega (arith, ints))
-      (λ s. law i j (interest_of o k) (interest_of o l) (nth_mapped (interest_of o) ls i k ek) (nth_mapped (interest_of o) ls j l el) s worse) short
+      (λ same. let w = subst (λ (x : Line). stated_gain o l <ℤ stated_gain o x) (one_there i j k l ek el same) worse in omega (arith, ints))
+      (λ s. law i j (interest_of o k) (interest_of o l) (at i k ek) (at j l el) s worse) short
 
   pub customers_in_line : CustomersInLine o ls lines
   customers_in_line i j k l ek el lt same ck cl short =
-      short_means i j k l ek el (λ e. omega arith)
-      (λ s. fair.in_line i j (interest_of o k) (interest_of o l) (nth_mapped (interest_of o) ls i k ek) (nth_mapped (interest_of o) ls j l el) lt same ck cl s) short
+      short_means i j k l ek el (λ e. omega arith) (λ s. fair.in_line i j (interest_of o k) (interest_of o l) (at i k ek) (at j l el) lt same ck cl s) short
 
   once : Once lines
   once =
@@ -226,7 +220,7 @@ module _ (o : Order) (ls : List Line) (lined : stands_in_line ls ≡ true)
   in_proportion v amount h k s g c =
       let t : other_at v (interest_of o k) ≡ true = subst (λ (w : ℤ). other_at w (interest_of o k) ≡ true) g (own_other (interest_of o k) c) in
       ⊎_elim (λ q. inl (line_receives s.0 k s.1 ∙ q)) (λ q. inr (line_receives s.0 k s.1 ∙ q))
-      (h s.0 (interest_of o k) (nth_mapped (interest_of o) ls s.0 k s.1) t)
+      (h s.0 (interest_of o k) (at s.0 k s.1) t)
 
   -- where all are filled at one price
   pub all_priced : (price : ℤ) → ((k : Line) → pays k ≡ price) → contra ≡ 0 → AllByRecursion (λ f. f.price ≡ price) lines

@@ -44,7 +44,10 @@ some_there p o (x ∷ ls) h =
 none_there : (p : Interest → Bool) (o : Order) (ls : List Line) → count.some p (interest o ls) ≡ false → (k : Line) → Stands ls k → p (interest_of o k) ≡ true → ⊥
 none_there p o [] h k (i, e) t = cc
 none_there p o (x ∷ ls) h k (zero, e) t =
-    let q : x ≡ k = cc in both_ways (p (interest_of o x)) (or_parts (p (interest_of o x)) (count.some p (interest o ls)) h).0 (ap (λ (y : Line). p (interest_of o y)) q ∙ t)
+    let q : x ≡ k = cc in
+    let f = (or_parts (p (interest_of o x)) (count.some p (interest o ls)) h).0 in
+    let r = ap (λ (y : Line). p (interest_of o y)) q in
+    cc
 none_there p o (x ∷ ls) h k (suc i, e) t = none_there p o ls (or_parts (p (interest_of o x)) (count.some p (interest o ls)) h).1 k (i, e) t
 
 -- lines at the level v, and better ones, are among those from g on
@@ -127,9 +130,8 @@ module _ (o : Order) (ls : List Line) (lined : stands_in_line ls ≡ true) where
   fac_prices : common.GoodPrices o ls lined fac_pays fac_fills fac_contra fac_fair
   fac_prices i k e u =
       let le = common.line_priced o ls lined fac_pays fac_fills fac_contra fac_fair i k e u in
-      elim (is_customer k.class && ltb (better_than o ls g) o.size) as
-      (λ b. (g ≤ℤ gain o.side (cond b o.price k.price)) × (gain o.side (cond b o.price k.price) ≤ℤ stated_gain o k))
-      [ true ↦ (omega (arith, ints), le) | false ↦ (le, omega (arith, ints)) ]
+      cond_both (is_customer k.class && ltb (better_than o ls g) o.size) o.price k.price (λ p. (g ≤ℤ gain o.side p) × (gain o.side p ≤ℤ stated_gain o k))
+      (λ _. (omega (arith, ints), le)) (λ _. (le, omega (arith, ints)))
 
   -- a customer at the order's price, others at their own, where better lines do not suffice
   fac_agreed : o.mechanism ≡ Facilitation → (k : Line) → Agreed o ls k (fac_pays k)
