@@ -3,7 +3,7 @@ use Rattle.std.proofs.Common.{◌≡◌, ℕ, zero, suc, ◌+◌, ◌-◌, ◌<�
 use lib.IntN.{neg_ℤ-neg_ℤ}
 use lib.Signed.{lt_z, le_z}
 use Rattle.std.proofs.lemmas.Int.{ints, by_lt_z}
-use Rattle.std.proofs.lemmas.Bool.{and_left, and_right, cond-true, cond-false, cond_both, leb-true, leb-false, eqb-true, eqb-false, and_parts, and_from, or_cases, or_parts, both_ways, cases_lt, lt-ltb, le-ltb}
+use Rattle.std.proofs.lemmas.Bool.{and_left, and_right, cond-true, cond-false, cond_both, leb-true, leb-false, eqb-true, eqb-false, and_parts, and_from, or_cases, or_parts, cases_lt, lt-ltb, le-ltb}
 use Rattle.market.specs.declared.names.Side.{Side}
 use Rattle.market.specs.declared.names.Side.TheVariants.{Buy, Sell}
 use Rattle.market.specs.declared.names.Mechanism.{Mechanism}

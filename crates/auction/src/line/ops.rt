@@ -26,7 +26,7 @@ impl Line {
         if !line_ok(price, size) {
             return Err(Refusal::OutOfLimits);
         }
-        // By hand: `try_from` tests the types' limits, which are wider than these; and market's `Entry::new` takes a size of 0.
+        // By hand: `try_from` tests the types' limits, which are wider than these, and `Entry::new` would want a side.
         Ok(Line {
             party,
             price: price as i32,
