@@ -1,11 +1,10 @@
 -- What fair fills of the lines come to on the blotter, whatever the mechanism.
 use Prim.Native.Nat.{ℕ, zero, suc, ◌+◌, ◌-◌, ◌*◌, ◌/◌, ◌<◌, ◌≤◌}
 use mathlib.Core.Path.{◌≡◌, refl, sym, ap, subst, ◌∙◌}
-use mathlib.Core.Bool.{true, false, cond}
+use mathlib.Core.Bool.{true, false}
 use mathlib.Core.List.{List, [], ◌∷◌, ◌++◌}
 use mathlib.Core.Logic.{◌⊎◌, inl, inr, ⊎_elim}
 use native.Mathlib.Omega.{arith}
-use lib.Dec.{eqb}
 use lib.IntN.{ℤ}
 use lib.ListN.{length, get_or}
 use lib.Signed.{◌<ℤ◌, ◌≤ℤ◌}
@@ -15,6 +14,7 @@ use Rattle.std.proofs.lemmas.List.{length-map}
 use Rattle.std.proofs.lemmas.Int.{ints, by_lt_z}
 use Rattle.std.proofs.lemmas.Bool.{cond-false, cases_lt, both_ways}
 use Rattle.std.specs.declared.option.Option.TheVariants.{Some}
+use Rattle.market.specs.declared.names.Mechanism.TheVariants.{Block, Facilitation, Solicited}
 use Rattle.market.specs.declared.fill.Party.{Party}
 use Rattle.market.specs.declared.fill.Party.TheVariants.{Contra}
 use Rattle.market.specs.declared.fill.Fill.{Fill}
@@ -26,10 +26,10 @@ use Rattle.filling.proofs.Places.{own_other}
 use Rattle.auction.specs.declared.order.Order.{Order}
 use Rattle.auction.specs.declared.line.Line.{Line}
 use Rattle.auction.specs.Gains.{gain, is_customer}
-use Rattle.auction.specs.Lines.{Stands, same_party, gain_of, stated_gain, counted, interest_of, interest, contra_of, others_at, stands_in_line}
-use Rattle.auction.specs.Settlement.{noted, note_all, blotted, total, received}
-use Rattle.auction.specs.Promises.{Allowed, NobodyBeyond, Behind, CustomersFirst, CustomersInLine, BetterFirst, LastPrice, Agreed, AgreedPrice, InOrder, Once, BlotterOrder}
-use Rattle.auction.proofs.Noting.{all_nth, same_back, total_append, received_append, total_noted, received_noted, total_all, received_none, received_at, each_noted, once_noted, once_more, order_noted}
+use Rattle.auction.specs.Lines.{Stands, same_party, gain_of, stated_gain, counted, interest_of, interest, contra_of, better_than, from_gain, others_at, stands_in_line}
+use Rattle.auction.specs.Settlement.{executed, noted, note_all, blotted, total, received}
+use Rattle.auction.specs.Promises.{executes, Allowed, NobodyBeyond, Behind, CustomersFirst, CustomersInLine, BetterFirst, facilitator_share, for_others, LastPrice, CustomerThere, BetterThere, BlockPriced, Agreed, AgreedPrice, CrossedWhen, InOrder, Once, BlotterOrder, OneSettlement}
+use Rattle.auction.proofs.Noting.{all_nth, same_back, total_append, received_append, noted_either, total_noted, received_noted, total_all, received_none, received_at, each_noted, once_noted, once_more, order_noted}
 use Rattle.auction.proofs.Standing.{apart, no_contra, counted_either, counted_within, nth_more, nth_last, nth_mapped, nth_either}
 
 one_of : (fs : List ℕ) (i : ℕ) → get_or fs i 0 ≤ sum fs
@@ -45,16 +45,11 @@ two_of (f ∷ fs) (suc i) zero h = omega (arith, sum_cons f fs, one_of fs i)
 two_of (f ∷ fs) (suc i) (suc j) h = omega (arith, sum_cons f fs, two_of fs i j (λ e. h (ap suc e)))
 
 behind_self : (o : Order) (k : Line) → is_customer k.class ≡ true → Behind o k k → ⊥
-behind_self o k c b = ⊎_elim (λ (w : stated_gain o k <ℤ stated_gain o k). omega (arith, ints)) (λ y. both_ways (is_customer k.class) y.1 c) b
-
-nth_same : {X : Type 0} (xs : List X) (i : ℕ) (x y : X) → slice_get xs i ≡ Some x → slice_get xs i ≡ Some y → x ≡ y
-nth_same xs i x y p q = cc
+behind_self o k c b = grind (arith, ints)
 
 -- a test of one blotter line, where there is one
 one_line : (Q : Fill → Type 0) (who : Party) (price : ℤ) (n : ℕ) → (1 ≤ n → Q (record { party = who; price = price; contracts = n })) → AllByRecursion Q (noted who price n)
-one_line Q who price n h =
-    elim (eqb n 0) as (λ b. (b ≡ false → 1 ≤ n) → AllByRecursion Q (cond b [] (record { party = who; price = price; contracts = n } ∷ [])))
-    [ true ↦ (λ u. tt) | false ↦ (λ u. (h (u refl), tt)) ] (λ u. let z : 1 ≤ n = grind arith in z)
+one_line Q who price n h = noted_either (AllByRecursion Q) who price n (λ _. tt) (λ u. (h u, tt))
 
 module _ (o : Order) (ls : List Line) (lined : stands_in_line ls ≡ true)
     (pays : Line → ℤ) (fs : List ℕ) (contra : ℕ) (fair : Fair o.size (gain_of o) (interest o ls) fs contra) where
@@ -85,8 +80,12 @@ module _ (o : Order) (ls : List Line) (lined : stands_in_line ls ≡ true)
         received_at pays ls fs (apart ls lined) i k e,
       )
 
+  -- a line as it is counted
+  at : (i : ℕ) (k : Line) → slice_get ls i ≡ Some k → slice_get (interest o ls) i ≡ Some (interest_of o k)
+  at = nth_mapped (interest_of o) ls
+
   line_within : (i : ℕ) (k : Line) → slice_get ls i ≡ Some k → get_or fs i 0 ≤ counted o k
-  line_within i k e = fair.within i (interest_of o k) (nth_mapped (interest_of o) ls i k e)
+  line_within i k e = fair.within i (interest_of o k) (at i k e)
 
   line_standing : (i : ℕ) (k : Line) → slice_get ls i ≡ Some k → get_or fs i 0 ≤ k.size
   line_standing i k e = omega (arith, line_within i k e, counted_within o k)
@@ -95,7 +94,7 @@ module _ (o : Order) (ls : List Line) (lined : stands_in_line ls ≡ true)
   pub line_priced : (i : ℕ) (k : Line) → slice_get ls i ≡ Some k → 1 ≤ get_or fs i 0 → gain_of o ≤ℤ stated_gain o k
   line_priced i k e h =
       by_lt_z (stated_gain o k) (gain_of o)
-      (λ lt. absurd (let z : ⊥ = omega (arith, fair.none_below i (interest_of o k) (nth_mapped (interest_of o) ls i k e) lt) in z))
+      (λ lt. absurd (omega (arith, fair.none_below i (interest_of o k) (at i k e) lt)))
       (λ ge. ge)
 
   pub conserves : total lines + (o.size - total lines) ≡ o.size
@@ -150,70 +149,58 @@ module _ (o : Order) (ls : List Line) (lined : stands_in_line ls ≡ true)
 
   -- a line that is filled as counted and still short has the whole order
   takes_all : (i : ℕ) (k : Line) → slice_get ls i ≡ Some k → get_or fs i 0 < k.size → counted o k ≤ get_or fs i 0 → get_or fs i 0 ≡ o.size
-  takes_all i k e h full =
-      ⊎_elim (λ (q : counted o k ≡ k.size). absurd (let z : ⊥ = omega arith in z)) (λ (q : counted o k ≡ o.size). omega (arith, line_within i k e))
-      (counted_either o k)
+  takes_all i k e h full = grind (arith, counted_either o k, line_within i k e)
 
-  -- whoever is short, of what it counts or of what stands, leaves those behind it nothing
+  -- whoever is short, of what it counts or of what stands, leaves another nothing
+  leaves : (i : ℕ) (k : Line) (n : ℕ) → slice_get ls i ≡ Some k → get_or fs i 0 + n ≤ sum fs + contra → (get_or fs i 0 < counted o k → n ≡ 0) →
+      received k.party lines < k.size → n ≡ 0
+  leaves i k n e both law short =
+      let less : get_or fs i 0 < k.size = omega (arith, line_receives i k e) in
+      ⊎_elim law (λ (s : counted o k ≤ get_or fs i 0). omega (arith, takes_all i k e less s, fair.conserved)) (cases_lt (get_or fs i 0) (counted o k))
+
   short_means : (i j : ℕ) (k l : Line) → slice_get ls i ≡ Some k → slice_get ls j ≡ Some l → (i ≡ j → ⊥) →
       (get_or fs i 0 < counted o k → get_or fs j 0 ≡ 0) → received k.party lines < k.size → received l.party lines ≡ 0
   short_means i j k l ek el other law short =
-      let less : get_or fs i 0 < k.size = omega (arith, line_receives i k ek) in
-      let none : get_or fs j 0 ≡ 0 =
-      ⊎_elim
-      (λ (s : get_or fs i 0 < counted o k). law s)
-      (λ (s : counted o k ≤ get_or fs i 0). omega (arith, takes_all i k ek less s, two_of fs i j other, fair.conserved))
-      (cases_lt (get_or fs i 0) (counted o k)) in
-      line_receives j l el ∙ none
+      line_receives j l el ∙ leaves i k (get_or fs j 0) ek (omega (arith, two_of fs i j other)) law short
+
+  -- two who stand at one place are one
+  one_there : (i j : ℕ) (k l : Line) → slice_get ls i ≡ Some k → slice_get ls j ≡ Some l → i ≡ j → k ≡ l
+  one_there i j k l ek el same = let e = ap (slice_get ls) same in cc
 
   pub customers_first : CustomersFirst o ls lines
-  customers_first k l sk sl c short behind =
-      let i = sk.0 in
-      let ek = sk.1 in
-      let lk : slice_get (interest o ls) i ≡ Some (interest_of o k) = nth_mapped (interest_of o) ls i k ek in
-      let less : get_or fs i 0 < k.size = omega (arith, line_receives i k ek) in
+  customers_first k l (i, ek) (j, e) c short behind =
       ⊎_elim
-      (λ (el : slice_get ls sl.0 ≡ Some l).
-      let j = sl.0 in
-      short_means i j k l ek el
-      (λ same. behind_self o k c (subst (λ (x : Line). Behind o k x) (sym (nth_same ls i k l ek (ap (slice_get ls) same ∙ el))) behind))
-      (λ s. fair.customers_first i j (interest_of o k) (interest_of o l) lk (nth_mapped (interest_of o) ls j l el) c s behind) short)
+      (λ (el : slice_get ls j ≡ Some l).
+      short_means i j k l ek el (λ same. behind_self o k c (subst (λ (x : Line). Behind o k x) (sym (one_there i j k l ek el same)) behind))
+      (λ s. fair.customers_first i j (interest_of o k) (interest_of o l) (at i k ek) (at j l el) c s behind) short)
       (λ (same : contra_of o ≡ l).
       let b : Behind o k (contra_of o) = subst (λ (x : Line). Behind o k x) (sym same) behind in
-      let le : gain_of o ≤ℤ stated_gain o k = ⊎_elim (λ (w : gain_of o <ℤ stated_gain o k). omega (arith, ints)) (λ (y : (gain_of o ≡ stated_gain o k) × (false ≡ false)). let q = y.0 in omega (arith, ints)) b in
-      let none : contra ≡ 0 =
-      ⊎_elim
-      (λ (s : get_or fs i 0 < counted o k). fair.contra_last i (interest_of o k) lk c s le)
-      (λ (s : counted o k ≤ get_or fs i 0). omega (arith, takes_all i k ek less s, one_of fs i, fair.conserved))
-      (cases_lt (get_or fs i 0) (counted o k)) in
-      ap (λ (x : Line). received x.party lines) (sym same) ∙ contra_receives ∙ none)
-      (nth_either ls (contra_of o) sl.0 l sl.1)
+      let le : gain_of o ≤ℤ stated_gain o k = grind (arith, ints) in
+      ap (λ (x : Line). received x.party lines) (sym same) ∙ contra_receives
+      ∙ leaves i k contra ek (omega (arith, one_of fs i)) (λ s. fair.contra_last i (interest_of o k) (at i k ek) c s le) short)
+      (nth_either ls (contra_of o) j l e)
 
   pub better_first : fairness.BestFirst (interest o ls) fs → BetterFirst o ls lines
   better_first law k l (i, ek) (j, el) short worse =
       short_means i j k l ek el
-      (λ same.
-      let q : k ≡ l = nth_same ls i k l ek (ap (slice_get ls) same ∙ el) in
-      let w : stated_gain o l <ℤ stated_gain o l = subst (λ (x : Line). stated_gain o l <ℤ stated_gain o x) q worse in
-      let z : ⊥ = omega (arith, ints) in z)
-      (λ s. law i j (interest_of o k) (interest_of o l) (nth_mapped (interest_of o) ls i k ek) (nth_mapped (interest_of o) ls j l el) s worse) short
+      (λ same. let w = subst (λ (x : Line). stated_gain o l <ℤ stated_gain o x) (one_there i j k l ek el same) worse in omega (arith, ints))
+      (λ s. law i j (interest_of o k) (interest_of o l) (at i k ek) (at j l el) s worse) short
 
   pub customers_in_line : CustomersInLine o ls lines
   customers_in_line i j k l ek el lt same ck cl short =
-      short_means i j k l ek el (λ e. omega arith)
-      (λ s. fair.in_line i j (interest_of o k) (interest_of o l) (nth_mapped (interest_of o) ls i k ek) (nth_mapped (interest_of o) ls j l el) lt same ck cl s) short
+      short_means i j k l ek el (λ e. omega arith) (λ s. fair.in_line i j (interest_of o k) (interest_of o l) (at i k ek) (at j l el) lt same ck cl s) short
 
   once : Once lines
   once =
       once_more (note_all pays ls fs) (noted Contra o.price contra) (once_noted pays ls fs (apart ls lined))
-      (elim (eqb contra 0) as (λ b. Once (cond b [] (record { party = Contra; price = o.price; contracts = contra } ∷ []))) [ true ↦ tt | false ↦ (tt, tt) ])
+      (noted_either Once Contra o.price contra (λ _. tt) (λ _. (tt, tt)))
       (each_noted pays (λ f. AllByRecursion (λ h. same_party f.party h.party ≡ false) (noted Contra o.price contra)) ls fs
       (λ i k e u. one_line (λ h. same_party k.party h.party ≡ false) Contra o.price contra (λ _. not_contra i k e)))
 
   in_order : InOrder (ls ++ contra_of o ∷ []) lines
   in_order =
       order_noted pays ls fs (contra_of o ∷ []) (noted Contra o.price contra)
-      (elim (eqb contra 0) as (λ b. InOrder (contra_of o ∷ []) (cond b [] (record { party = Contra; price = o.price; contracts = contra } ∷ []))) [ true ↦ tt | false ↦ inl (refl, tt) ])
+      (noted_either (InOrder (contra_of o ∷ [])) Contra o.price contra (λ _. tt) (λ _. inl (refl, tt)))
 
   pub blotter_order : BlotterOrder o ls lines
   blotter_order = record { in_order = in_order; once = once; some = each_line (λ f. 1 ≤ f.contracts) (λ i k e u. u) (λ u. u) }
@@ -233,8 +220,53 @@ module _ (o : Order) (ls : List Line) (lined : stands_in_line ls ≡ true)
   in_proportion v amount h k s g c =
       let t : other_at v (interest_of o k) ≡ true = subst (λ (w : ℤ). other_at w (interest_of o k) ≡ true) g (own_other (interest_of o k) c) in
       ⊎_elim (λ q. inl (line_receives s.0 k s.1 ∙ q)) (λ q. inr (line_receives s.0 k s.1 ∙ q))
-      (h s.0 (interest_of o k) (nth_mapped (interest_of o) ls s.0 k s.1) t)
+      (h s.0 (interest_of o k) (at s.0 k s.1) t)
 
   -- where all are filled at one price
   pub all_priced : (price : ℤ) → ((k : Line) → pays k ≡ price) → contra ≡ 0 → AllByRecursion (λ f. f.price ≡ price) lines
-  all_priced price h none = each_line (λ f. f.price ≡ price) (λ i k e u. h k) (λ u. absurd (let z : ⊥ = omega arith in z))
+  all_priced price h none = each_line (λ f. f.price ≡ price) (λ i k e u. h k) (λ u. absurd (omega arith))
+
+  -- what differs by the mechanism
+  pub record Differs : Type 0 where
+    pub facilitation : o.mechanism ≡ Facilitation → sum fs + contra ≡ o.size
+    pub solicited : o.mechanism ≡ Solicited → sum fs + contra ≡ o.size
+    pub block : o.mechanism ≡ Block → sum fs + contra ≡ executes o ls (gain_of o)
+    pub prices : GoodPrices
+    pub best : fairness.BestFirst (interest o ls) fs
+    pub share : o.mechanism ≡ Facilitation → contra ≡ facilitator_share o ls
+    pub proportions : (v : ℤ) → gain_of o ≤ℤ v → LastPrice o ls lines v → fairness.InProportion (interest o ls) fs v (for_others o ls v)
+    -- no reason to cancel holds
+    pub no_customer : (o.mechanism ≡ Solicited) × (better_than o ls (gain_of o) < o.size) × CustomerThere o ls × (from_gain o ls (gain_of o) < o.size) → ⊥
+    pub no_better : (o.mechanism ≡ Solicited) × (better_than o ls (gain_of o) < o.size) × (CustomerThere o ls → ⊥) × BetterThere o ls → ⊥
+    pub some : (o.mechanism ≡ Block) × (from_gain o ls (gain_of o) ≡ 0) → ⊥
+    pub priced : o.mechanism ≡ Block → BlockPriced o ls lines
+    pub agreed : (k : Line) → Agreed o ls k (pays k)
+    pub contra_agreed : Agreed o ls (contra_of o) o.price
+    pub crossed : o.mechanism ≡ Solicited → CrossedWhen o ls lines
+
+  -- and all that is promised
+  pub kept : Differs → OneSettlement o ls (executed lines)
+  kept d = record {
+    conserved = record {
+      whole = conserves;
+      facilitation = λ q. filled_in_all ∙ d.facilitation q;
+      solicited = λ q. inl (filled_in_all ∙ d.solicited q);
+      block = λ q. filled_in_all ∙ d.block q;
+    };
+    nobody_beyond = nobody_beyond d.prices;
+    customers_first = customers_first;
+    customers_in_line = customers_in_line;
+    better_first = better_first d.best;
+    facilitators_share = λ q. contra_receives ∙ d.share q;
+    proportions = λ v p. in_proportion v (for_others o ls v) (d.proportions v (last_from v p) p);
+    cancelled_when = record {
+      customer = ((λ q. cc), (λ h. absurd (d.no_customer h)));
+      better = ((λ q. cc), (λ h. absurd (d.no_better h)));
+      none = ((λ q. cc), (λ h. absurd (d.some h)));
+      never = λ why _ q. cc;
+    };
+    block_priced = d.priced;
+    agreed_price = agreed_price d.agreed d.contra_agreed;
+    crossed_when = d.crossed;
+    blotter_order = blotter_order;
+  }

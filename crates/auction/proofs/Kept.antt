@@ -3,12 +3,11 @@ use Rattle.std.proofs.Common.{◌≡◌, ℕ, zero, suc, ◌+◌, ◌-◌, ◌<�
 use lib.IntN.{neg_ℤ-neg_ℤ}
 use lib.Signed.{lt_z, le_z}
 use Rattle.std.proofs.lemmas.Int.{ints, by_lt_z}
-use Rattle.std.proofs.lemmas.Bool.{cond-true, cond-false, cond_both, leb-true, leb-false, eqb-true, eqb-false, and_parts, and_from, or_cases, or_parts, both_ways, cases_lt, lt-ltb, le-ltb}
+use Rattle.std.proofs.lemmas.Bool.{and_left, and_right, cond-true, cond-false, cond_both, leb-true, leb-false, eqb-true, eqb-false, and_parts, and_from, or_cases, or_parts, cases_lt, lt-ltb, le-ltb}
 use Rattle.market.specs.declared.names.Side.{Side}
 use Rattle.market.specs.declared.names.Side.TheVariants.{Buy, Sell}
 use Rattle.market.specs.declared.names.Mechanism.{Mechanism}
 use Rattle.market.specs.declared.names.Mechanism.TheVariants.{Block, Facilitation, Solicited}
-use Rattle.market.specs.declared.fill.Fill.{Fill}
 use Rattle.market.specs.declared.fill.Reason.{Reason}
 use Rattle.market.specs.declared.fill.Reason.TheVariants.{CustomerStands, BetterStands, NoInterest}
 use Rattle.filling.specs.declared.interest.Interest.{Interest}
@@ -26,34 +25,11 @@ use Rattle.auction.specs.declared.line.Line.{Line}
 use Rattle.auction.specs.Limits.{is_facilitation}
 use Rattle.auction.specs.Gains.{gain, is_customer, is_pooled}
 use Rattle.auction.specs.Lines.{Stands, gain_of, stated_gain, reserved_of, interest_of, interest, contra_of, better_than, from_gain, stands_in_line}
-use Rattle.auction.specs.Settlement.{Outcome, executed, cancelled, blotted, answered, own, facilitation_price, block_price, settle_as, settlement}
-use Rattle.auction.specs.Promises.{executes, Conserved, CustomerThere, BetterThere, left_at, reserved_taken, for_others, LastPrice, CancelledWhen, BlockPriced, Agreed, CrossedWhen, OneSettlement}
-use Rattle.auction.proofs.Noting.{none_some, order_none}
+use Rattle.auction.specs.Settlement.{Outcome, cancelled, answered, own, facilitation_price, block_price, settle_as, settlement}
+use Rattle.auction.specs.Promises.{executes, Conserved, CustomerThere, BetterThere, left_at, reserved_taken, for_others, CancelledWhen, BlockPriced, Agreed, CrossedWhen, OneSettlement}
+use Rattle.auction.proofs.Noting.{order_none}
 use Rattle.auction.proofs.Standing.{nth_mapped}
 use Rattle.auction.proofs.Common as common
-
--- Mechanisms apart.
-fac_sol : (m : Mechanism) → m ≡ Facilitation → m ≡ Solicited → ⊥
-fac_sol m p q = let z : ◌≡◌ {A = ℕ} 0 1 = cc in omega arith
-
-fac_block : (m : Mechanism) → m ≡ Facilitation → m ≡ Block → ⊥
-fac_block m p q = let z : ◌≡◌ {A = ℕ} 0 1 = cc in omega arith
-
-sol_block : (m : Mechanism) → m ≡ Solicited → m ≡ Block → ⊥
-sol_block m p q = let z : ◌≡◌ {A = ℕ} 0 1 = cc in omega arith
-
--- Outcomes apart.
-not_cancelled : (fs : List Fill) (r : Reason) → executed fs ≡ cancelled r → ⊥
-not_cancelled fs r e = let z : ◌≡◌ {A = ℕ} 0 1 = cc in omega arith
-
-customer_better : ◌≡◌ {A = Outcome} (cancelled CustomerStands) (cancelled BetterStands) → ⊥
-customer_better e = let z : ◌≡◌ {A = ℕ} 0 1 = cc in omega arith
-
-customer_none : ◌≡◌ {A = Outcome} (cancelled CustomerStands) (cancelled NoInterest) → ⊥
-customer_none e = let z : ◌≡◌ {A = ℕ} 0 1 = cc in omega arith
-
-better_none : ◌≡◌ {A = Outcome} (cancelled BetterStands) (cancelled NoInterest) → ⊥
-better_none e = let z : ◌≡◌ {A = ℕ} 0 1 = cc in omega arith
 
 pub gain_back : (s : Side) (v : ℤ) → gain s (gain s v) ≡ v
 gain_back Buy v = neg_ℤ-neg_ℤ v
@@ -61,14 +37,17 @@ gain_back Sell v = refl
 
 -- Some line, none such.
 some_there : (p : Interest → Bool) (o : Order) (ls : List Line) → count.some p (interest o ls) ≡ true → (k : Line) × Stands ls k × (p (interest_of o k) ≡ true)
-some_there p o [] h = absurd (both_ways false refl h)
+some_there p o [] h = cc
 some_there p o (x ∷ ls) h =
     ⊎_elim (λ t. (x, (0, refl), t)) (λ t. let w = some_there p o ls t in (w.0, (suc w.1.0, w.1.1), w.2)) (or_cases (p (interest_of o x)) (count.some p (interest o ls)) h)
 
 none_there : (p : Interest → Bool) (o : Order) (ls : List Line) → count.some p (interest o ls) ≡ false → (k : Line) → Stands ls k → p (interest_of o k) ≡ true → ⊥
-none_there p o [] h k s t = none_some k s.1
+none_there p o [] h k (i, e) t = cc
 none_there p o (x ∷ ls) h k (zero, e) t =
-    let q : x ≡ k = cc in both_ways (p (interest_of o x)) (or_parts (p (interest_of o x)) (count.some p (interest o ls)) h).0 (ap (λ (y : Line). p (interest_of o y)) q ∙ t)
+    let q : x ≡ k = cc in
+    let f = (or_parts (p (interest_of o x)) (count.some p (interest o ls)) h).0 in
+    let r = ap (λ (y : Line). p (interest_of o y)) q in
+    cc
 none_there p o (x ∷ ls) h k (suc i, e) t = none_there p o ls (or_parts (p (interest_of o x)) (count.some p (interest o ls)) h).1 k (i, e) t
 
 -- lines at the level v, and better ones, are among those from g on
@@ -95,7 +74,7 @@ module _ (o : Order) (ls : List Line) (lined : stands_in_line ls ≡ true) where
     customers_in_line = λ i j k l ek el lt e ck cl s. refl;
     better_first = λ k l sk sl s w. refl;
     facilitators_share = λ q. absurd (no-fac q);
-    proportions = λ v p. absurd (let z : ⊥ = omega (arith, p.reached.2) in z);
+    proportions = λ v p. absurd (omega (arith, p.reached.2));
     cancelled_when = when;
     block_priced = priced;
     agreed_price = tt;
@@ -132,19 +111,16 @@ module _ (o : Order) (ls : List Line) (lined : stands_in_line ls ≡ true) where
       let same : g ≡ v = omega (arith, ints) in
       subst (λ (w : ℤ). count.fac_pot o.size g r is w ≡ for_others o ls w) same (omega (arith, taken, (fac.at_order o.size g r is).1)))
 
-  same_fills : (xs ys : List ℕ) (a b : ℕ) → count.executed xs a ≡ count.executed ys b → xs ≡ ys
-  same_fills xs ys a b e = cc
-
   -- better lines come first in a facilitation too
   fac_best : fairness.BestFirst is fac_fills
   fac_best i j k l ek el short worse =
       ⊎_elim
       (λ (few : contracts (better g) is < o.size).
       by_lt_z g k.gain
-      (λ up. absurd (let z : ⊥ = omega (arith, (fac.facilitation).better_filled o.size g r is (omega arith) i k ek up) in z))
-      (λ le. fac_fair.none_below j l el (let z : l.gain <ℤ g = omega (arith, ints) in z)))
+      (λ up. absurd (omega (arith, (fac.facilitation).better_filled o.size g r is (omega arith) i k ek up)))
+      (λ le. fac_fair.none_below j l el (omega (arith, ints))))
       (λ (enough : o.size ≤ contracts (better g) is).
-      let same : fac_fills ≡ fill_down o.size is = same_fills fac_fills (fill_down o.size is) fac_contra 0 ((fac.facilitation).better_suffice o.size g r is enough) in
+      let same : fac_fills ≡ fill_down o.size is = cc ((fac.facilitation).better_suffice o.size g r is enough) in
       subst (λ (fs : List ℕ). get_or fs j 0 ≡ 0) (sym same) (filling.best_first o.size is i j k l ek el (subst (λ (fs : List ℕ). get_or fs i 0 < k.size) same short) worse))
       (cases_lt (contracts (better g) is) o.size)
 
@@ -154,9 +130,8 @@ module _ (o : Order) (ls : List Line) (lined : stands_in_line ls ≡ true) where
   fac_prices : common.GoodPrices o ls lined fac_pays fac_fills fac_contra fac_fair
   fac_prices i k e u =
       let le = common.line_priced o ls lined fac_pays fac_fills fac_contra fac_fair i k e u in
-      elim (is_customer k.class && ltb (better_than o ls g) o.size) as
-      (λ b. (g ≤ℤ gain o.side (cond b o.price k.price)) × (gain o.side (cond b o.price k.price) ≤ℤ stated_gain o k))
-      [ true ↦ (omega (arith, ints), le) | false ↦ (le, omega (arith, ints)) ]
+      cond_both (is_customer k.class && ltb (better_than o ls g) o.size) o.price k.price (λ p. (g ≤ℤ gain o.side p) × (gain o.side p ≤ℤ stated_gain o k))
+      (λ _. (omega (arith, ints), le)) (λ _. (le, omega (arith, ints)))
 
   -- a customer at the order's price, others at their own, where better lines do not suffice
   fac_agreed : o.mechanism ≡ Facilitation → (k : Line) → Agreed o ls k (fac_pays k)
@@ -164,46 +139,33 @@ module _ (o : Order) (ls : List Line) (lined : stands_in_line ls ≡ true) where
       let c = is_customer k.class in
       let t = ltb (better_than o ls g) o.size in record {
         customer = λ _ few is. cond-true (c && t) o.price k.price (and_from c t is (lt-ltb (better_than o ls g) o.size few));
-        other = λ _ otherwise. cond-false (c && t) o.price k.price (ap (λ b. b && t) otherwise);
-        filled = λ _ enough. let f : t ≡ false = le-ltb (better_than o ls g) o.size enough in cond-false (c && t) o.price k.price (last c t f);
-        solicited = λ q. absurd (fac_sol o.mechanism m q);
+        other = λ _ otherwise. cond-false (c && t) o.price k.price (and_left c t otherwise);
+        filled = λ _ enough. cond-false (c && t) o.price k.price (and_right c t (le-ltb (better_than o ls g) o.size enough));
+        solicited = λ q. cc;
       }
-    where
-      last : (a b : Bool) → b ≡ false → a && b ≡ false
-      last true b f = f
-      last false b f = refl
 
   contra_agreed : Agreed o ls (contra_of o) o.price
   contra_agreed = record { customer = λ _ _ _. refl; other = λ _ _. refl; filled = λ _ _. refl; solicited = λ _. refl }
 
   fac_keeps : o.mechanism ≡ Facilitation → Keeps (settle_as Facilitation o ls)
-  fac_keeps m = record {
-    conserved = record {
-      whole = common.conserves o ls lined fac_pays fac_fills fac_contra fac_fair;
-      facilitation = λ _. common.filled_in_all o ls lined fac_pays fac_fills fac_contra fac_fair ∙ (fac.facilitation).whole o.size g r is;
-      solicited = λ q. absurd (fac_sol o.mechanism m q);
-      block = λ q. absurd (fac_block o.mechanism m q);
-    };
-    nobody_beyond = common.nobody_beyond o ls lined fac_pays fac_fills fac_contra fac_fair fac_prices;
-    customers_first = common.customers_first o ls lined fac_pays fac_fills fac_contra fac_fair;
-    customers_in_line = common.customers_in_line o ls lined fac_pays fac_fills fac_contra fac_fair;
-    better_first = common.better_first o ls lined fac_pays fac_fills fac_contra fac_fair fac_best;
-    facilitators_share = λ _. common.contra_receives o ls lined fac_pays fac_fills fac_contra fac_fair ∙ (fac.facilitation).facilitator o.size g r is;
-    proportions = λ v p.
-        let lo = common.last_from o ls lined fac_pays fac_fills fac_contra fac_fair v p in
-        common.in_proportion o ls lined fac_pays fac_fills fac_contra fac_fair v (for_others o ls v)
-        (subst (λ (a : ℕ). fairness.InProportion is fac_fills v a) (fac_amount m v lo) ((fac.facilitation).in_proportion o.size g r is v));
-    cancelled_when = record {
-      customer = ((λ q. absurd (not_cancelled _ CustomerStands q)), (λ h. absurd (fac_sol o.mechanism m h.0)));
-      better = ((λ q. absurd (not_cancelled _ BetterStands q)), (λ h. absurd (fac_sol o.mechanism m h.0)));
-      none = ((λ q. absurd (not_cancelled _ NoInterest q)), (λ h. absurd (fac_block o.mechanism m h.0)));
-      never = λ why _ q. not_cancelled _ why q;
-    };
-    block_priced = λ q. absurd (fac_block o.mechanism m q);
-    agreed_price = common.agreed_price o ls lined fac_pays fac_fills fac_contra fac_fair (fac_agreed m) contra_agreed;
-    crossed_when = λ q. absurd (fac_sol o.mechanism m q);
-    blotter_order = common.blotter_order o ls lined fac_pays fac_fills fac_contra fac_fair;
-  }
+  fac_keeps m =
+      common.kept o ls lined fac_pays fac_fills fac_contra fac_fair
+      (record {
+        facilitation = λ _. (fac.facilitation).whole o.size g r is;
+        solicited = λ q. cc;
+        block = λ q. cc;
+        prices = fac_prices;
+        best = fac_best;
+        share = λ _. (fac.facilitation).facilitator o.size g r is;
+        proportions = λ v lo p. subst (λ (a : ℕ). fairness.InProportion is fac_fills v a) (fac_amount m v lo) ((fac.facilitation).in_proportion o.size g r is v);
+        no_customer = λ h. cc h.0;
+        no_better = λ h. cc h.0;
+        some = λ h. cc h.0;
+        priced = λ q. cc;
+        agreed = fac_agreed m;
+        contra_agreed = contra_agreed;
+        crossed = λ q. cc;
+      })
 
   -- no share is reserved outside facilitation
   none_reserved : (m : Mechanism) → o.mechanism ≡ m → is_facilitation m ≡ false → reserved_taken o ls ≡ 0
@@ -216,39 +178,33 @@ module _ (o : Order) (ls : List Line) (lined : stands_in_line ls ≡ true) where
   customer_found : count.some (count.customer_from g) is ≡ true → CustomerThere o ls
   customer_found h =
       let w = some_there (count.customer_from g) o ls h in
-      let k = w.0 in
-      let p = and_parts (is_customer k.class) (le_z g (stated_gain o k)) w.2 in
-      let t = p.1 in
-      (k, w.1, p.0, (let z : g ≤ℤ stated_gain o k = grind (arith, ints) in z))
+      let p = and_parts (is_customer w.0.class) (le_z g (stated_gain o w.0)) w.2 in
+      (w.0, w.1, p.0, grind (arith, ints, p.1))
 
   no_customer : count.some (count.customer_from g) is ≡ false → CustomerThere o ls → ⊥
   no_customer h (k, s, c, le) =
-      none_there (count.customer_from g) o ls h k s
-      (and_from (is_customer k.class) (le_z g (stated_gain o k)) c (let z : le_z g (stated_gain o k) ≡ true = grind (arith, ints) in z))
+      none_there (count.customer_from g) o ls h k s (and_from (is_customer k.class) (le_z g (stated_gain o k)) c (grind (arith, ints)))
 
   better_found : count.some (count.pooled_over g) is ≡ true → BetterThere o ls
   better_found h =
       let w = some_there (count.pooled_over g) o ls h in
-      let k = w.0 in
-      let p = and_parts (is_pooled k.party) (lt_z g (stated_gain o k)) w.2 in
-      let t = p.1 in
-      (k, w.1, p.0, (let z : g <ℤ stated_gain o k = grind (arith, ints) in z))
+      let p = and_parts (is_pooled w.0.party) (lt_z g (stated_gain o w.0)) w.2 in
+      (w.0, w.1, p.0, grind (arith, ints, p.1))
 
   no_better : count.some (count.pooled_over g) is ≡ false → BetterThere o ls → ⊥
   no_better h (k, s, c, lt) =
-      none_there (count.pooled_over g) o ls h k s
-      (and_from (is_pooled k.party) (lt_z g (stated_gain o k)) c (let z : lt_z g (stated_gain o k) ≡ true = grind (arith, ints) in z))
+      none_there (count.pooled_over g) o ls h k s (and_from (is_pooled k.party) (lt_z g (stated_gain o k)) c (grind (arith, ints)))
 
   own_agreed : o.mechanism ≡ Solicited → (k : Line) → Agreed o ls k (own k)
   own_agreed m k = record {
-    customer = λ q _ _. absurd (fac_sol o.mechanism q m);
-    other = λ q _. absurd (fac_sol o.mechanism q m);
-    filled = λ q _. absurd (fac_sol o.mechanism q m);
+    customer = λ q _ _. cc;
+    other = λ q _. cc;
+    filled = λ q _. cc;
     solicited = λ _. refl;
   }
 
   own_prices : (fs : List ℕ) (c : ℕ) (fair : Fair o.size g is fs c) → common.GoodPrices o ls lined own fs c fair
-  own_prices fs c fair i k e u = (common.line_priced o ls lined own fs c fair i k e u, (let z : stated_gain o k ≤ℤ stated_gain o k = omega (arith, ints) in z))
+  own_prices fs c fair i k e u = (common.line_priced o ls lined own fs c fair i k e u, (omega (arith, ints)))
 
   -- an order that is filled down among its lines
   sol_filled : o.mechanism ≡ Solicited → o.size ≤ from_gain o ls g → (CustomerThere o ls ⊎ (o.size ≤ better_than o ls g)) → AsSolicited (count.executed (fill_down o.size is) 0)
@@ -256,103 +212,87 @@ module _ (o : Order) (ls : List Line) (lined : stands_in_line ls ≡ true) where
       let fs = fill_down o.size is in
       let fair = down_fair o.size o.size g is (omega arith) enough in
       let some_size = o.some in
-      record {
-        conserved = record {
-          whole = common.conserves o ls lined own fs 0 fair;
-          facilitation = λ q. absurd (fac_sol o.mechanism q m);
-          solicited = λ _. inl (omega (arith, common.filled_in_all o ls lined own fs 0 fair, down_total o.size g is enough));
-          block = λ q. absurd (sol_block o.mechanism m q);
-        };
-        nobody_beyond = common.nobody_beyond o ls lined own fs 0 fair (own_prices fs 0 fair);
-        customers_first = common.customers_first o ls lined own fs 0 fair;
-        customers_in_line = common.customers_in_line o ls lined own fs 0 fair;
-        better_first = common.better_first o ls lined own fs 0 fair (filling.best_first o.size is);
-        facilitators_share = λ q. absurd (fac_sol o.mechanism q m);
-        proportions = λ v p.
-            common.in_proportion o ls lined own fs 0 fair v (for_others o ls v)
-            (subst (λ (a : ℕ). fairness.InProportion is fs v a) (let z : left_over o.size is v ≡ for_others o ls v = omega (arith, none_reserved Solicited m refl) in z) (filling.in_proportion o.size is v));
-        cancelled_when = record {
-          customer = ((λ q. absurd (not_cancelled _ CustomerStands q)), (λ h. absurd (let z : ⊥ = omega (arith, h.3) in z)));
-          better = ((λ q. absurd (not_cancelled _ BetterStands q)), (λ h. absurd (⊎_elim (λ c. h.2 c) (λ b. let z : ⊥ = omega (arith, h.1) in z) why)));
-          none = ((λ q. absurd (not_cancelled _ NoInterest q)), (λ h. absurd (sol_block o.mechanism m h.0)));
-          never = λ r _ q. not_cancelled _ r q;
-        };
-        block_priced = λ q. absurd (sol_block o.mechanism m q);
-        agreed_price = common.agreed_price o ls lined own fs 0 fair (own_agreed m) contra_agreed;
-        crossed_when = λ _. record {
+      common.kept o ls lined own fs 0 fair
+      (record {
+        facilitation = λ q. cc;
+        solicited = λ _. omega (arith, down_total o.size g is enough);
+        block = λ q. cc;
+        prices = own_prices fs 0 fair;
+        best = filling.best_first o.size is;
+        share = λ q. cc;
+        proportions = λ v lo p.
+            subst (λ (a : ℕ). fairness.InProportion is fs v a) (omega (arith, none_reserved Solicited m refl)) (filling.in_proportion o.size is v);
+        no_customer = λ h. omega (arith, h.3);
+        no_better = λ h. ⊎_elim (λ c. h.2 c) (λ b. omega (arith, h.1)) why;
+        some = λ h. cc h.0;
+        priced = λ q. cc;
+        agreed = own_agreed m;
+        contra_agreed = contra_agreed;
+        crossed = λ _. record {
           whole = inr (common.contra_receives o ls lined own fs 0 fair);
           crossed = (
-            (λ q. absurd (let z : ⊥ = omega (arith, common.contra_receives o ls lined own fs 0 fair) in z)),
-            (λ h. absurd (⊎_elim (λ c. h.1 c) (λ b. let z : ⊥ = omega (arith, h.0) in z) why)),
+            (λ q. absurd (omega (arith, common.contra_receives o ls lined own fs 0 fair))),
+            (λ h. absurd (⊎_elim (λ c. h.1 c) (λ b. omega (arith, h.0)) why)),
           );
         };
-        blotter_order = common.blotter_order o ls lined own fs 0 fair;
-      }
+      })
 
   sol_conserved : o.mechanism ≡ Solicited → (r : Reason) → Conserved o ls (cancelled r)
-  sol_conserved m r = record { whole = omega arith; facilitation = λ q. absurd (fac_sol o.mechanism q m); solicited = λ _. inr refl; block = λ q. absurd (sol_block o.mechanism m q) }
+  sol_conserved m r = record { whole = omega arith; facilitation = λ q. cc; solicited = λ _. inr refl; block = λ q. cc }
 
   -- nothing of it goes to the contra
   not_crossed : (((better_than o ls g < o.size) × (CustomerThere o ls → ⊥) × (BetterThere o ls → ⊥)) → ⊥) → CrossedWhen o ls []
-  not_crossed never = let some_size = o.some in record { whole = inr refl; crossed = ((λ q. absurd (let z : ⊥ = omega arith in z)), (λ h. absurd (never h))) }
+  not_crossed never = let some_size = o.some in record { whole = inr refl; crossed = ((λ q. absurd (omega arith)), (λ h. absurd (never h))) }
 
   sol_customer : o.mechanism ≡ Solicited → better_than o ls g < o.size → CustomerThere o ls → from_gain o ls g < o.size → AsSolicited (count.cancelled CustomerStands)
   sol_customer m few c less =
       unfilled CustomerStands (sol_conserved m CustomerStands)
       (record {
         customer = ((λ q. (m, few, c, less)), (λ h. refl));
-        better = ((λ q. absurd (customer_better q)), (λ h. absurd (h.2 c)));
-        none = ((λ q. absurd (customer_none q)), (λ h. absurd (sol_block o.mechanism m h.0)));
-        never = λ r q _. fac_sol o.mechanism q m;
+        better = ((λ q. cc), (λ h. absurd (h.2 c)));
+        none = ((λ q. cc), (λ h. cc h.0));
+        never = λ r q _. cc;
       })
-      (λ q. fac_sol o.mechanism q m) (λ q. absurd (sol_block o.mechanism m q)) (λ _. not_crossed (λ h. h.1 c))
+      (λ q. cc) (λ q. cc) (λ _. not_crossed (λ h. h.1 c))
 
   sol_better : o.mechanism ≡ Solicited → better_than o ls g < o.size → (CustomerThere o ls → ⊥) → BetterThere o ls → AsSolicited (count.cancelled BetterStands)
   sol_better m few c b =
       unfilled BetterStands (sol_conserved m BetterStands)
       (record {
-        customer = ((λ q. absurd (customer_better (sym q))), (λ h. absurd (c h.2)));
+        customer = ((λ q. cc), (λ h. absurd (c h.2)));
         better = ((λ q. (m, few, c, b)), (λ h. refl));
-        none = ((λ q. absurd (better_none q)), (λ h. absurd (sol_block o.mechanism m h.0)));
-        never = λ r q _. fac_sol o.mechanism q m;
+        none = ((λ q. cc), (λ h. cc h.0));
+        never = λ r q _. cc;
       })
-      (λ q. fac_sol o.mechanism q m) (λ q. absurd (sol_block o.mechanism m q)) (λ _. not_crossed (λ h. h.2 b))
+      (λ q. cc) (λ q. cc) (λ _. not_crossed (λ h. h.2 b))
 
   -- the contra takes all
   sol_crossed : o.mechanism ≡ Solicited → count.some (count.customer_from g) is ≡ false → (BetterThere o ls → ⊥) → better_than o ls g < o.size → AsSolicited (count.executed (count.nothing is) o.size)
   sol_crossed m none b few =
       let fs = count.nothing is in
       let fair = contra_fair o.size g is none in
-      let unfilled-line : (v : ℤ) → LastPrice o ls (blotted o own ls fs o.size) v → ⊥ = λ v p.
-      let s = p.reached.1 in
-      let z : ⊥ = omega (arith, p.reached.2, common.line_receives o ls lined own fs o.size fair s.0 p.reached.0 s.1, zeros_at is s.0) in z in
-      record {
-        conserved = record {
-          whole = common.conserves o ls lined own fs o.size fair;
-          facilitation = λ q. absurd (fac_sol o.mechanism q m);
-          solicited = λ _. inl (omega (arith, common.filled_in_all o ls lined own fs o.size fair, zeros_sum is));
-          block = λ q. absurd (sol_block o.mechanism m q);
-        };
-        nobody_beyond = common.nobody_beyond o ls lined own fs o.size fair (own_prices fs o.size fair);
-        customers_first = common.customers_first o ls lined own fs o.size fair;
-        customers_in_line = common.customers_in_line o ls lined own fs o.size fair;
-        better_first = common.better_first o ls lined own fs o.size fair (λ i j k l ek el s w. zeros_at is j);
-        facilitators_share = λ q. absurd (fac_sol o.mechanism q m);
-        proportions = λ v p. absurd (unfilled-line v p);
-        cancelled_when = record {
-          customer = ((λ q. absurd (not_cancelled _ CustomerStands q)), (λ h. absurd (no_customer none h.2)));
-          better = ((λ q. absurd (not_cancelled _ BetterStands q)), (λ h. absurd (b h.3)));
-          none = ((λ q. absurd (not_cancelled _ NoInterest q)), (λ h. absurd (sol_block o.mechanism m h.0)));
-          never = λ r _ q. not_cancelled _ r q;
-        };
-        block_priced = λ q. absurd (sol_block o.mechanism m q);
-        agreed_price = common.agreed_price o ls lined own fs o.size fair (own_agreed m) contra_agreed;
-        crossed_when = λ _. record {
+      common.kept o ls lined own fs o.size fair
+      (record {
+        facilitation = λ q. cc;
+        solicited = λ _. omega (arith, zeros_sum is);
+        block = λ q. cc;
+        prices = own_prices fs o.size fair;
+        best = λ i j k l ek el s w. zeros_at is j;
+        share = λ q. cc;
+        proportions = λ v lo p.
+            let s = p.reached.1 in
+            absurd (omega (arith, p.reached.2, common.line_receives o ls lined own fs o.size fair s.0 p.reached.0 s.1, zeros_at is s.0));
+        no_customer = λ h. no_customer none h.2;
+        no_better = λ h. b h.3;
+        some = λ h. cc h.0;
+        priced = λ q. cc;
+        agreed = own_agreed m;
+        contra_agreed = contra_agreed;
+        crossed = λ _. record {
           whole = inl (common.contra_receives o ls lined own fs o.size fair);
           crossed = ((λ q. (few, no_customer none, b)), (λ h. common.contra_receives o ls lined own fs o.size fair));
         };
-        blotter_order = common.blotter_order o ls lined own fs o.size fair;
-      }
+      })
 
   sol_keeps : o.mechanism ≡ Solicited → Keeps (settle_as Solicited o ls)
   sol_keeps m =
@@ -383,23 +323,23 @@ module _ (o : Order) (ls : List Line) (lined : stands_in_line ls ≡ true) where
   block_none : o.mechanism ≡ Block → from_gain o ls g ≡ 0 → AsBlock (count.cancelled NoInterest)
   block_none m none =
       unfilled NoInterest
-      (record { whole = omega arith; facilitation = λ q. absurd (fac_block o.mechanism q m); solicited = λ q. absurd (sol_block o.mechanism q m); block = λ _. omega arith })
+      (record { whole = omega arith; facilitation = λ q. cc; solicited = λ q. cc; block = λ _. omega arith })
       (record {
-        customer = ((λ q. absurd (customer_none (sym q))), (λ h. absurd (sol_block o.mechanism h.0 m)));
-        better = ((λ q. absurd (better_none (sym q))), (λ h. absurd (sol_block o.mechanism h.0 m)));
+        customer = ((λ q. cc), (λ h. cc h.0));
+        better = ((λ q. cc), (λ h. cc h.0));
         none = ((λ q. (m, none)), (λ h. refl));
-        never = λ r q _. fac_block o.mechanism q m;
+        never = λ r q _. cc;
       })
-      (λ q. fac_block o.mechanism q m)
-      (λ _. record { price = λ h. absurd (let z : ⊥ = omega arith in z); no_contra = refl })
-      (λ q. absurd (sol_block o.mechanism q m))
+      (λ q. cc)
+      (λ _. record { price = λ h. absurd (omega arith); no_contra = refl })
+      (λ q. cc)
 
   block_agreed : o.mechanism ≡ Block → (k : Line) (p : ℤ) → Agreed o ls k p
   block_agreed m k p = record {
-    customer = λ q _ _. absurd (fac_block o.mechanism q m);
-    other = λ q _. absurd (fac_block o.mechanism q m);
-    filled = λ q _. absurd (fac_block o.mechanism q m);
-    solicited = λ q. absurd (sol_block o.mechanism q m);
+    customer = λ q _ _. cc;
+    other = λ q _. cc;
+    filled = λ q _. cc;
+    solicited = λ q. cc;
   }
 
   block_filled : o.mechanism ≡ Block → (from_gain o ls g ≡ 0 → ⊥) → AsBlock (count.executed (fill_down amount is) 0)
@@ -409,35 +349,26 @@ module _ (o : Order) (ls : List Line) (lined : stands_in_line ls ≡ true) where
       let v₀ = count.block_gain o.size g is in
       let back : gain o.side (block_price o ls) ≡ v₀ = gain_back o.side v₀ in
       let some_size = o.some in
-      record {
-        conserved = record {
-          whole = common.conserves o ls lined block_pays fs 0 fair;
-          facilitation = λ q. absurd (fac_block o.mechanism q m);
-          solicited = λ q. absurd (sol_block o.mechanism q m);
-          block = λ _. omega (arith, common.filled_in_all o ls lined block_pays fs 0 fair, block.total o.size g is);
-        };
-        nobody_beyond = common.nobody_beyond o ls lined block_pays fs 0 fair (λ i k e u. (
+      common.kept o ls lined block_pays fs 0 fair
+      (record {
+        facilitation = λ q. cc;
+        solicited = λ q. cc;
+        block = λ _. omega (arith, block.total o.size g is);
+        prices = λ i k e u. (
           subst (λ (w : ℤ). g ≤ℤ w) (sym back) (block.from_order o.size g is),
           subst (λ (w : ℤ). w ≤ℤ stated_gain o k) (sym back) (block.paid o.size g is i (interest_of o k) (nth_mapped (interest_of o) ls i k e) u),
-        ));
-        customers_first = common.customers_first o ls lined block_pays fs 0 fair;
-        customers_in_line = common.customers_in_line o ls lined block_pays fs 0 fair;
-        better_first = common.better_first o ls lined block_pays fs 0 fair (filling.best_first amount is);
-        facilitators_share = λ q. absurd (fac_block o.mechanism q m);
-        proportions = λ v p.
-            let lo = common.last_from o ls lined block_pays fs 0 fair v p in
-            common.in_proportion o ls lined block_pays fs 0 fair v (for_others o ls v)
-            (subst (λ (a : ℕ). fairness.InProportion is fs v a)
+        );
+        best = filling.best_first amount is;
+        share = λ q. cc;
+        proportions = λ v lo p.
+            subst (λ (a : ℕ). fairness.InProportion is fs v a)
             (let z : left_over amount is v ≡ for_others o ls v =
             omega (arith, none_reserved Block m refl, level_from is g v lo, contracts_split (level v) (customer_at v) (other_at v) (level_splits v) is) in z)
-            (filling.in_proportion amount is v));
-        cancelled_when = record {
-          customer = ((λ q. absurd (not_cancelled _ CustomerStands q)), (λ h. absurd (sol_block o.mechanism h.0 m)));
-          better = ((λ q. absurd (not_cancelled _ BetterStands q)), (λ h. absurd (sol_block o.mechanism h.0 m)));
-          none = ((λ q. absurd (not_cancelled _ NoInterest q)), (λ h. absurd (there h.1)));
-          never = λ r _ q. not_cancelled _ r q;
-        };
-        block_priced = λ q. record {
+            (filling.in_proportion amount is v);
+        no_customer = λ h. cc h.0;
+        no_better = λ h. cc h.0;
+        some = λ h. there h.1;
+        priced = λ q. record {
           price = λ h. (
             block_price o ls,
             record {
@@ -448,10 +379,10 @@ module _ (o : Order) (ls : List Line) (lined : stands_in_line ls ≡ true) where
           );
           no_contra = common.contra_receives o ls lined block_pays fs 0 fair;
         };
-        agreed_price = common.agreed_price o ls lined block_pays fs 0 fair (λ k. block_agreed m k (block_price o ls)) (block_agreed m (contra_of o) o.price);
-        crossed_when = λ q. absurd (sol_block o.mechanism q m);
-        blotter_order = common.blotter_order o ls lined block_pays fs 0 fair;
-      }
+        agreed = λ k. block_agreed m k (block_price o ls);
+        contra_agreed = block_agreed m (contra_of o) o.price;
+        crossed = λ q. cc;
+      })
 
   block_keeps : o.mechanism ≡ Block → Keeps (settle_as Block o ls)
   block_keeps m =
@@ -459,16 +390,11 @@ module _ (o : Order) (ls : List Line) (lined : stands_in_line ls ≡ true) where
       (λ e. block_none m (eqb-true (from_gain o ls g) 0 e))
       (λ e. block_filled m (eqb-false (from_gain o ls g) 0 e))
 
-three : (m : Mechanism) → (m ≡ Block) ⊎ ((m ≡ Facilitation) ⊎ (m ≡ Solicited))
-three Block = inl refl
-three Facilitation = inr (inl refl)
-three Solicited = inr (inr refl)
-
 -- every settlement of lines in line order keeps its promises
 pub settlement_keeps : (o : Order) (ls : List Line) → stands_in_line ls ≡ true → OneSettlement o ls (settlement o ls)
-settlement_keeps o ls lined =
-    let by : (m : Mechanism) → o.mechanism ≡ m → OneSettlement o ls (settle_as m o ls) → OneSettlement o ls (settlement o ls) =
-    λ m e k. subst (λ (x : Mechanism). OneSettlement o ls (settle_as x o ls)) (sym e) k in
-    ⊎_elim (λ e. by Block e (block_keeps o ls lined e))
-    (⊎_elim (λ e. by Facilitation e (fac_keeps o ls lined e)) (λ e. by Solicited e (sol_keeps o ls lined e)))
-    (three o.mechanism)
+settlement_keeps o ls lined = by o.mechanism refl
+  where
+    by : (m : Mechanism) → o.mechanism ≡ m → OneSettlement o ls (settle_as m o ls)
+    by Block e = block_keeps o ls lined e
+    by Facilitation e = fac_keeps o ls lined e
+    by Solicited e = sol_keeps o ls lined e

@@ -2,7 +2,6 @@ pub mod Noting
 pub mod Standing
 pub mod Common
 pub mod Kept
-pub mod Counted
 pub mod Seated
 pub mod Written
 pub mod Settling

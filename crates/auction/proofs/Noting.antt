@@ -1,7 +1,10 @@
 -- Fills of lines, and the blotter lines that they make.
-use Rattle.std.proofs.Common.{◌≡◌, ℕ, zero, suc, ◌+◌, ◌≤◌, true, false, cond, eqb, List, [], ◌∷◌, ◌++◌, length, get_or, ℤ, Some, None, sum, Option, sym, refl, ap, ◌∙◌, subst, inl, inr, arith}
+use Rattle.std.proofs.Common.{◌≡◌, ℕ, zero, suc, ◌+◌, ◌≤◌, true, false, cond, eqb, List, [], ◌∷◌, ◌++◌, length, get_or, ℤ, Some, sum, sym, refl, ap, ◌∙◌, subst, inl, inr, arith}
 use Rattle.std.specs.List.{AllByRecursion, slice_get}
-use Rattle.std.proofs.lemmas.Bool.{cond-true, cond-false, eqb-true}
+use Rattle.std.proofs.ByRecursion.{All-append}
+use Rattle.std.proofs.lemmas.List.Sums.{sum_by-append}
+use Rattle.std.proofs.lemmas.Bool.{cond-true, cond-false, cond_both, eqb-true}
+use Rattle.std.proofs.lemmas.Bool.Decides.{nat_tests}
 use Rattle.market.specs.declared.fill.Party.{Party}
 use Rattle.market.specs.declared.fill.Party.TheVariants.{Entry, Response, Contra}
 use Rattle.market.specs.declared.fill.Fill.{Fill}
@@ -11,26 +14,17 @@ use Rattle.auction.specs.Settlement.{noted, note_all, total, received}
 use Rattle.auction.specs.Promises.{Once, InOrder}
 use Rattle.filling.proofs.Counting.{sum_cons}
 
-pub none_some : {X : Type 0} (x : X) → ◌≡◌ {A = Option X} None (Some x) → ⊥
-none_some x e = let z : ◌≡◌ {A = ℕ} 0 1 = cc in omega arith
-
-eqb_refl : (n : ℕ) → eqb n n ≡ true
-eqb_refl n = grind arith
-
-eqb_sym : (m n : ℕ) → eqb m n ≡ eqb n m
-eqb_sym m n = grind arith
-
 pub same_itself : (p : Party) → same_party p p ≡ true
-same_itself (Entry a) = eqb_refl a
-same_itself (Response m s) = rw (eqb_refl m, eqb_refl s)
+same_itself (Entry a) = grind (arith, nat_tests)
+same_itself (Response m s) = grind (arith, nat_tests)
 same_itself Contra = refl
 
 pub same_back : (p q : Party) → same_party p q ≡ same_party q p
-same_back (Entry a) (Entry b) = eqb_sym a b
+same_back (Entry a) (Entry b) = grind (arith, nat_tests)
 same_back (Entry a) (Response m s) = refl
 same_back (Entry a) Contra = refl
 same_back (Response m s) (Entry b) = refl
-same_back (Response m s) (Response n t) = rw (eqb_sym m n, eqb_sym s t)
+same_back (Response m s) (Response n t) = grind (arith, nat_tests)
 same_back (Response m s) Contra = refl
 same_back Contra (Entry b) = refl
 same_back Contra (Response n t) = refl
@@ -46,27 +40,27 @@ abbrev pub Others : Party → List Line → Type 0
 Others p is = AllByRecursion (λ k. same_party p k.party ≡ false) is
 
 pub all_nth : {X : Type 0} (P : X → Type 0) (xs : List X) (i : ℕ) (x : X) → slice_get xs i ≡ Some x → AllByRecursion P xs → P x
-all_nth P [] i x e a = absurd (none_some x e)
+all_nth P [] i x e a = cc
 all_nth P (y ∷ xs) zero x e a = subst P (let s : y ≡ x = cc in s) a.0
 all_nth P (y ∷ xs) (suc i) x e a = all_nth P xs i x e a.1
 
 pub total_append : (xs ys : List Fill) → total (xs ++ ys) ≡ total xs + total ys
-total_append [] ys = omega arith
-total_append (x ∷ xs) ys = omega (arith, total_append xs ys)
+total_append = sum_by-append (λ (f : Fill). f.contracts)
 
 pub received_append : (p : Party) (xs ys : List Fill) → received p (xs ++ ys) ≡ received p xs + received p ys
 received_append p [] ys = omega arith
 received_append p (x ∷ xs) ys = omega (arith, received_append p xs ys)
 
+-- contracts make no line or one
+pub noted_either : (P : List Fill → Type 0) (who : Party) (price : ℤ) (n : ℕ) → (n ≡ 0 → P []) → (1 ≤ n → P (record { party = who; price = price; contracts = n } ∷ [])) → P (noted who price n)
+noted_either P who price n none some =
+    cond_both (eqb n 0) [] (record { party = who; price = price; contracts = n } ∷ []) P (λ e. none (eqb-true n 0 e)) (λ e. some (grind (arith, nat_tests)))
+
 pub total_noted : (who : Party) (price : ℤ) (n : ℕ) → total (noted who price n) ≡ n
-total_noted who price n =
-    elim (eqb n 0) as (λ b. (b ≡ true → n ≡ 0) → total (cond b [] (record { party = who; price = price; contracts = n } ∷ [])) ≡ n)
-    [ true ↦ (λ h. sym (h refl)) | false ↦ (λ h. omega arith) ] (eqb-true n 0)
+total_noted who price n = noted_either (λ fs. total fs ≡ n) who price n (λ z. sym z) (λ _. omega arith)
 
 pub received_noted : (p who : Party) (price : ℤ) (n : ℕ) → received p (noted who price n) ≡ cond (same_party p who) n 0
-received_noted p who price n =
-    elim (eqb n 0) as (λ b. (b ≡ true → n ≡ 0) → received p (cond b [] (record { party = who; price = price; contracts = n } ∷ [])) ≡ cond (same_party p who) n 0)
-    [ true ↦ (λ h. let z : n ≡ 0 = h refl in elim (same_party p who) as (λ b. 0 ≡ cond b n 0) [ true ↦ sym z | false ↦ refl ]) | false ↦ (λ h. omega arith) ] (eqb-true n 0)
+received_noted p who price n = noted_either (λ fs. received p fs ≡ cond (same_party p who) n 0) who price n (λ z. grind (arith, nat_tests)) (λ _. omega arith)
 
 pub order_none : (is : List Line) → InOrder is []
 order_none [] = tt
@@ -83,8 +77,8 @@ order_skips (x ∷ xs) is fs h = order_skip x (xs ++ is) fs (order_skips xs is f
 module _ (pays : Line → ℤ) where
   pub total_all : (is : List Line) (fs : List ℕ) → length fs ≡ length is → total (note_all pays is fs) ≡ sum fs
   total_all [] [] e = refl
-  total_all [] (f ∷ fs) e = absurd (let z : ⊥ = omega arith in z)
-  total_all (i ∷ is) [] e = absurd (let z : ⊥ = omega arith in z)
+  total_all [] (f ∷ fs) e = absurd (omega arith)
+  total_all (i ∷ is) [] e = absurd (omega arith)
   total_all (i ∷ is) (f ∷ fs) e =
       omega (arith, total_append (noted i.party (pays i) f) (note_all pays is fs), total_noted i.party (pays i) f, total_all is fs (omega arith), sum_cons f fs)
 
@@ -101,7 +95,7 @@ module _ (pays : Line → ℤ) where
       )
 
   pub received_at : (is : List Line) (fs : List ℕ) → Apart is → (i : ℕ) (k : Line) → slice_get is i ≡ Some k → received k.party (note_all pays is fs) ≡ get_or fs i 0
-  received_at [] fs a i k e = absurd (none_some k e)
+  received_at [] fs a i k e = cc
   received_at (x ∷ is) [] a i k e = refl
   received_at (x ∷ is) (f ∷ fs) a zero k e =
       let s : x ≡ k = cc in
@@ -132,8 +126,7 @@ module _ (pays : Line → ℤ) where
   each_noted Q (x ∷ is) [] h = tt
   each_noted Q (x ∷ is) (f ∷ fs) h =
       let later : AllByRecursion Q (note_all pays is fs) = each_noted Q is fs (λ i. h (suc i)) in
-      elim (eqb f 0) as (λ b. (b ≡ false → 1 ≤ f) → AllByRecursion Q (cond b [] (record { party = x.party; price = pays x; contracts = f } ∷ []) ++ note_all pays is fs))
-      [ true ↦ (λ u. later) | false ↦ (λ u. (h 0 x refl (u refl), later)) ] (λ u. let z : 1 ≤ f = grind arith in z)
+      noted_either (λ xs. AllByRecursion Q (xs ++ note_all pays is fs)) x.party (pays x) f (λ _. later) (λ u. (h 0 x refl u, later))
 
   pub once_noted : (is : List Line) (fs : List ℕ) → Apart is → Once (note_all pays is fs)
   once_noted [] fs a = tt
@@ -142,8 +135,7 @@ module _ (pays : Line → ℤ) where
       let later : Once (note_all pays is fs) = once_noted is fs a.1 in
       let apart : AllByRecursion (λ h. same_party x.party h.party ≡ false) (note_all pays is fs) =
       each_noted (λ h. same_party x.party h.party ≡ false) is fs (λ i k e u. all_nth (λ y. same_party x.party y.party ≡ false) is i k e a.0) in
-      elim (eqb f 0) as (λ b. Once (cond b [] (record { party = x.party; price = pays x; contracts = f } ∷ []) ++ note_all pays is fs))
-      [ true ↦ later | false ↦ (apart, later) ]
+      noted_either (λ xs. Once (xs ++ note_all pays is fs)) x.party (pays x) f (λ _. later) (λ _. (apart, later))
 
   -- the lines come in order, with more behind them
   pub order_noted : (is : List Line) (fs : List ℕ) (later : List Line) (more : List Fill) → InOrder later more → InOrder (is ++ later) (note_all pays is fs ++ more)
@@ -151,14 +143,10 @@ module _ (pays : Line → ℤ) where
   order_noted (x ∷ is) [] later more h = order_skip x (is ++ later) more (order_skips is later more h)
   order_noted (x ∷ is) (f ∷ fs) later more h =
       let ih : InOrder (is ++ later) (note_all pays is fs ++ more) = order_noted is fs later more h in
-      elim (eqb f 0) as (λ b. InOrder (x ∷ is ++ later) ((cond b [] (record { party = x.party; price = pays x; contracts = f } ∷ []) ++ note_all pays is fs) ++ more))
-      [ true ↦ order_skip x (is ++ later) (note_all pays is fs ++ more) ih | false ↦ inl (refl, ih) ]
+      noted_either (λ xs. InOrder (x ∷ is ++ later) ((xs ++ note_all pays is fs) ++ more)) x.party (pays x) f
+      (λ _. order_skip x (is ++ later) (note_all pays is fs ++ more) ih) (λ _. inl (refl, ih))
 
 -- one line more, of a party that has none
 pub once_more : (xs ys : List Fill) → Once xs → Once ys → AllByRecursion (λ f. AllByRecursion (λ h. same_party f.party h.party ≡ false) ys) xs → Once (xs ++ ys)
 once_more [] ys a b c = b
-once_more (x ∷ xs) ys a b c = (all_join xs ys a.0 c.0, once_more xs ys a.1 b c.1)
-  where
-    all_join : (xs ys : List Fill) → AllByRecursion (λ h. same_party x.party h.party ≡ false) xs → AllByRecursion (λ h. same_party x.party h.party ≡ false) ys → AllByRecursion (λ h. same_party x.party h.party ≡ false) (xs ++ ys)
-    all_join [] ys p q = q
-    all_join (z ∷ zs) ys p q = (p.0, all_join zs ys p.1 q)
+once_more (x ∷ xs) ys a b c = (All-append (λ (h : Fill). same_party x.party h.party ≡ false) xs ys a.0 c.0, once_more xs ys a.1 b c.1)

@@ -1,8 +1,12 @@
 -- Who stands: nobody twice, and the contra apart.
-use Rattle.std.proofs.Common.{◌≡◌, ℕ, zero, suc, ◌+◌, ◌≤◌, min, true, false, cond, not, ◌&&◌, ◌||◌, leb, ◌⊎◌, List, [], ◌∷◌, ◌++◌, map, length, Some, sym, refl, ap, ◌∙◌, inl, inr, ⊎_elim, arith}
+use Rattle.std.proofs.Common.{◌≡◌, ℕ, zero, suc, ◌+◌, ◌≤◌, min, true, false, not, ◌&&◌, ◌||◌, ◌⊎◌, List, [], ◌∷◌, ◌++◌, map, length, Some, sym, refl, ap, ◌∙◌, inl, inr, ⊎_elim, arith}
 use Rattle.std.specs.List.{AllByRecursion, slice_get}
 use Rattle.std.proofs.ByRecursion.{All-weaker}
-use Rattle.std.proofs.lemmas.Bool.{and_parts, or_parts, not-true, both_ways, ne_eqb, leb-true, cases_lt}
+use Rattle.std.proofs.lemmas.List.Recursion.{or_push}
+use Rattle.std.proofs.lemmas.Option.{slice_get-map}
+use Rattle.std.specs.Option.{option_map}
+use Rattle.std.proofs.lemmas.Bool.{cond_both, and_parts, or_parts, not-true, ne_eqb, cases_lt}
+use Rattle.std.proofs.lemmas.Bool.Decides.{nat_tests}
 use Rattle.market.specs.Limits.{most_entries}
 use Rattle.market.specs.Lists.{up_to}
 use Rattle.market.specs.declared.fill.Party.{Party}
@@ -12,7 +16,7 @@ use Rattle.auction.specs.declared.line.Line.{Line}
 use Rattle.auction.specs.Limits.{most_members, most_slots}
 use Rattle.auction.specs.Gains.{is_pooled}
 use Rattle.auction.specs.Lines.{same_party, counted, has_line, may_stand, next_place, in_line_from, stands_in_line}
-use Rattle.auction.proofs.Noting.{Apart, Others, none_some, same_back}
+use Rattle.auction.proofs.Noting.{Apart, Others, same_back}
 
 -- one who may stand behind lines, where entries stand from the place low on
 abbrev Beyond : ℕ → List Line → Party → Type 0
@@ -20,36 +24,29 @@ Beyond low before (Entry place) = low ≤ place
 Beyond low before (Response m s) = has_line (Response m s) before ≡ false
 Beyond low before Contra = ⊥
 
-has_front : (p : Party) (xs ys : List Line) → has_line p (xs ++ ys) ≡ false → has_line p xs ≡ false
-has_front p [] ys h = refl
-has_front p (x ∷ xs) ys h =
-    let t = or_parts (same_party p x.party) (has_line p (xs ++ ys)) h in
-    ap (λ b. b || has_line p xs) t.0 ∙ has_front p xs ys t.1
+pub has_push : (p : Party) (xs : List Line) (y : Line) → has_line p (xs ++ y ∷ []) ≡ has_line p xs || same_party p y.party
+has_push p = or_push (has_line p) (λ (y : Line). same_party p y.party) refl (λ _ _. refl)
 
-has_last : (p : Party) (xs : List Line) (y : Line) → has_line p (xs ++ y ∷ []) ≡ false → same_party p y.party ≡ false
-has_last p [] y h = (or_parts (same_party p y.party) false h).0
-has_last p (x ∷ xs) y h = has_last p xs y (or_parts (same_party p x.party) (has_line p (xs ++ y ∷ [])) h).1
+-- who has no line among these and one more has none among these, and is not the one
+none_pushed : (p : Party) (xs : List Line) (y : Line) → has_line p (xs ++ y ∷ []) ≡ false → (has_line p xs ≡ false) × (same_party p y.party ≡ false)
+none_pushed p xs y h = or_parts (has_line p xs) (same_party p y.party) (sym (has_push p xs y) ∙ h)
 
 -- one who may stand is beyond what stands
 stands_beyond : (low : ℕ) (before : List Line) (p : Party) → may_stand low before p ≡ true → Beyond low before p
-stands_beyond low before (Entry place) h = leb-true low place (and_parts (leb low place) (leb place most_entries) h).0
+stands_beyond low before (Entry place) h = grind (arith, nat_tests)
 stands_beyond low before (Response m s) h =
     not-true (has_line (Response m s) before) (and_parts (up_to most_members m && up_to most_slots s) (not (has_line (Response m s) before)) h).1
-stands_beyond low before Contra h = both_ways false refl h
+stands_beyond low before Contra h = cc
 
 -- where a party stands next, those beyond it are beyond what was before it
 next_high : (low : ℕ) (before : List Line) (p : Party) → low ≤ most_entries + 1 → may_stand low before p ≡ true → (low ≤ next_place p) × (next_place p ≤ most_entries + 1)
-next_high low before (Entry place) l h =
-    let t = and_parts (leb low place) (leb place most_entries) h in
-    let a = leb-true low place t.0 in
-    let b = leb-true place most_entries t.1 in
-    (omega arith, omega arith)
+next_high low before (Entry place) l h = grind (arith, nat_tests)
 next_high low before (Response m s) l h = (l, omega arith)
 next_high low before Contra l h = (l, omega arith)
 
 beyond_more : (low high : ℕ) (before : List Line) (x : Line) (p : Party) → low ≤ high → Beyond high (before ++ x ∷ []) p → Beyond low before p
 beyond_more low high before x (Entry place) l h = omega arith
-beyond_more low high before x (Response m s) l h = has_front (Response m s) before (x ∷ []) h
+beyond_more low high before x (Response m s) l h = (none_pushed (Response m s) before x h).0
 beyond_more low high before x Contra l h = h
 
 beyond_all : (low : ℕ) (before ls : List Line) → low ≤ most_entries + 1 → in_line_from low before ls ≡ true → AllByRecursion (λ k. Beyond low before k.party) ls
@@ -69,7 +66,7 @@ beyond_other before x (Entry a) (Response m s) e h = refl
 beyond_other before x (Entry a) Contra e h = refl
 beyond_other before x (Response m s) (Entry b) e h = refl
 beyond_other before x (Response m s) (Response n t) e h =
-    same_back (Response m s) (Response n t) ∙ ap (same_party (Response n t)) (sym e) ∙ has_last (Response n t) before x h
+    same_back (Response m s) (Response n t) ∙ ap (same_party (Response n t)) (sym e) ∙ (none_pushed (Response n t) before x h).1
 beyond_other before x (Response m s) Contra e h = refl
 beyond_other before x Contra (Entry b) e h = refl
 beyond_other before x Contra (Response n t) e h = refl
@@ -101,15 +98,15 @@ no_contra ls h = All-weaker (λ k. Beyond 1 [] k.party) (λ k. same_party Contra
 -- a line counts in full, or as the whole order
 pub counted_either : (o : Order) (l : Line) → (counted o l ≡ l.size) ⊎ (counted o l ≡ o.size)
 counted_either o l =
-    elim (is_pooled l.party) as (λ b. (cond b l.size (min l.size o.size) ≡ l.size) ⊎ (cond b l.size (min l.size o.size) ≡ o.size))
-    [ true ↦ inl refl | false ↦ ⊎_elim (λ u. inl (omega arith)) (λ u. inr (omega arith)) (cases_lt l.size o.size) ]
+    cond_both (is_pooled l.party) l.size (min l.size o.size) (λ n. (n ≡ l.size) ⊎ (n ≡ o.size)) (λ _. inl refl)
+    (λ _. ⊎_elim (λ u. inl (omega arith)) (λ u. inr (omega arith)) (cases_lt l.size o.size))
 
 pub counted_within : (o : Order) (l : Line) → counted o l ≤ l.size
-counted_within o l = elim (is_pooled l.party) as (λ b. cond b l.size (min l.size o.size) ≤ l.size) [ true ↦ omega arith | false ↦ omega arith ]
+counted_within o l = cond_both (is_pooled l.party) l.size (min l.size o.size) (λ n. n ≤ l.size) (λ _. omega arith) (λ _. omega arith)
 
 -- Places of lists.
 pub nth_more : {X : Type 0} (xs ys : List X) (i : ℕ) (x : X) → slice_get xs i ≡ Some x → slice_get (xs ++ ys) i ≡ Some x
-nth_more [] ys i x e = absurd (none_some x e)
+nth_more [] ys i x e = cc
 nth_more (y ∷ xs) ys zero x e = e
 nth_more (y ∷ xs) ys (suc i) x e = nth_more xs ys i x e
 
@@ -118,13 +115,11 @@ nth_last [] y = refl
 nth_last (x ∷ xs) y = nth_last xs y
 
 pub nth_mapped : {X Y : Type 0} (f : X → Y) (xs : List X) (i : ℕ) (x : X) → slice_get xs i ≡ Some x → slice_get (map f xs) i ≡ Some (f x)
-nth_mapped f [] i x e = absurd (none_some x e)
-nth_mapped f (y ∷ xs) zero x e = let s : y ≡ x = cc in ap (λ z. Some (f z)) s
-nth_mapped f (y ∷ xs) (suc i) x e = nth_mapped f xs i x e
+nth_mapped f xs i x e = slice_get-map f xs i ∙ ap (option_map f) e
 
 -- one more at the end: it was there, or is the last
 pub nth_either : {X : Type 0} (xs : List X) (y : X) (i : ℕ) (x : X) → slice_get (xs ++ y ∷ []) i ≡ Some x → (slice_get xs i ≡ Some x) ⊎ (y ≡ x)
 nth_either [] y zero x e = inr (let s : y ≡ x = cc in s)
-nth_either [] y (suc i) x e = absurd (none_some x e)
+nth_either [] y (suc i) x e = cc
 nth_either (z ∷ xs) y zero x e = inl e
 nth_either (z ∷ xs) y (suc i) x e = nth_either xs y i x e

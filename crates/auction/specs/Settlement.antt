@@ -1,5 +1,6 @@
 -- One settlement: what goes onto the blotter, or the reason why nothing executes.
 use Rattle.std.specs.Prelude.{ℕ, ◌+◌, ◌-◌, cond, ◌&&◌, List, [], ◌∷◌, ◌++◌, ℤ, ◌==◌, nat_lt}
+use Rattle.std.specs.List.{sum_by}
 use Rattle.market.specs.declared.names.Mechanism.{Mechanism}
 use Rattle.market.specs.declared.names.Mechanism.TheVariants.{Block, Facilitation, Solicited}
 use Rattle.market.specs.declared.fill.Party.{Party}
@@ -64,8 +65,7 @@ fills_of (cancelled reason) = []
 
 -- the contracts on blotter lines
 abbrev pub total : List Fill → ℕ
-total [] = 0
-total (f ∷ fs) = f.contracts + total fs
+total fs = sum_by (λ f. f.contracts) fs
 
 -- what one party receives on them
 abbrev pub received : Party → List Fill → ℕ

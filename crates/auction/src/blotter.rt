@@ -1,13 +1,15 @@
 // Writing fills onto a blotter.
-ghost use Rattle.std.specs.Prelude.{◌≡◌, ℕ, ◌+◌, ◌^◌, ◌<◌, ◌≤◌, List, ◌++◌, length, take, drop, ℤ};
+ghost use Rattle.std.specs.Prelude.{◌≡◌, ◌+◌, ◌^◌, ◌<◌, ◌≤◌, ◌++◌, length, take, drop};
 ghost use Rattle.auction.specs.Settlement.{noted, note_all, total};
 ghost use Rattle.auction.specs.Pricing.{paid};
 
-use super::counting::customer;
 use super::line::Line;
-use market::fill::{Fill, Party};
+use super::settled::Executed;
+use market::fill::Fill;
+use market::names::Class;
 
 // The price of each line: its own, the order's for customers and its own for others, or one for all.
+// By hand: as a closure it could not be handed out of `pricing_of`, and taken in it would need a call for each kind.
 #[derive(Clone, Copy)]
 pub(crate) enum Pricing {
     Own,
@@ -15,78 +17,84 @@ pub(crate) enum Pricing {
     AllAt(i32),
 }
 
-// The price of a line.
-fn price_of(pricing: Pricing, line: &Line) -> i32
-    ensures { result ≡ paid pricing line.now }
-{
-    match pricing {
-        Pricing::Own => line.price,
-        Pricing::CustomersAt(price) => {
-            if customer(line.class) {
-                price
-            } else {
-                line.price
-            }
+impl Pricing {
+    // The price of a line.
+    fn of(self, line: &Line) -> i32
+        ensures { result ≡ paid self line.now }
+    {
+        match self {
+            Pricing::CustomersAt(price) if line.class == Class::Customer => price,
+            Pricing::AllAt(price) => price,
+            Pricing::Own | Pricing::CustomersAt(_) => line.price,
         }
-        Pricing::AllAt(price) => price,
     }
 }
 
-// Writes a fill behind the first `at` lines, unless it is of no contracts; answers how many lines there are then.
-pub(crate) fn note(
-    party: Party,
-    price: i32,
-    contracts: u32,
+// A blotter, and how many of its lines are written.
+#[derive(Drop)]
+pub(crate) struct Notes<'a> {
+    blotter: &'a mut [Fill],
     at: usize,
-    blotter: &mut [Fill],
-) -> usize
-    requires { at < length blotter.old }
-    ensures many { result ≡ at + length (noted party price contracts) }
-    ensures front { take result blotter.new ≡ take at blotter.old ++ noted party price contracts }
-    ensures rest { drop result blotter.new ≡ drop result blotter.old }
-{
-    if contracts == 0 {
-        return at;
-    }
-    blotter[at] = Fill {
-        party,
-        price,
-        contracts,
-    };
-    at + 1
 }
 
-// Writes the fills of the lines from the start of the blotter; answers how many lines there are.
-pub(crate) fn note_lines(
-    pricing: Pricing,
-    lines: &[Line],
-    fills: &[u32],
-    blotter: &mut [Fill],
-) -> usize
-    requires long { length fills.now ≡ length lines.now }
-    requires room { length lines.now < length blotter.old }
-    ensures many { result ≡ length (note_all (paid pricing) lines.now fills.now) }
-    ensures few { result ≤ length lines.now }
-    ensures front { take result blotter.new ≡ note_all (paid pricing) lines.now fills.now }
-    ensures rest { drop result blotter.new ≡ drop result blotter.old }
-{
-    let mut at: usize = 0;
-    for i in 0..lines.len() {
-        let line = lines[i];
-        let price = price_of(pricing, &line);
-        at = note(line.party, price, fills[i], at, blotter);
+impl<'a> Notes<'a> {
+    // None is written yet.
+    pub(crate) fn new(blotter: &'a mut [Fill]) -> Notes<'a>
+        ensures same_reference { result.blotter.ghost_name ≡ blotter.entry.ghost_name }
+        ensures blotter { result.blotter.now ≡ blotter.old }
+        ensures at { result.at ≡ 0 }
+    {
+        Notes { blotter, at: 0 }
     }
-    at
-}
 
-// The contracts on blotter lines.
-pub(crate) fn total_of(lines: &[Fill]) -> u32
-    requires { total lines.now < 2 ^ 32 }
-    ensures { result ≡ total lines.now }
-{
-    let mut sum: u32 = 0;
-    for line in lines {
-        sum += line.contracts;
+    // Writes a fill behind the others, unless it is of no contracts.
+    pub(crate) fn note(&mut self, fill: Fill)
+        requires { self.old.at < length self.old.blotter.now }
+        ensures same_reference { self.new.blotter.ghost_name ≡ self.old.blotter.ghost_name }
+        ensures long { length self.new.blotter.now ≡ length self.old.blotter.now }
+        ensures many { self.new.at ≡ self.old.at + length (noted fill.party fill.price fill.contracts) }
+        ensures front { take self.new.at self.new.blotter.now ≡ take self.old.at self.old.blotter.now ++ noted fill.party fill.price fill.contracts }
+        ensures rest { drop self.new.at self.new.blotter.now ≡ drop self.new.at self.old.blotter.now }
+    {
+        if fill.contracts > 0 {
+            self.blotter[self.at] = fill;
+            self.at += 1;
+        }
     }
-    sum
+
+    // Writes the fills of the lines.
+    pub(crate) fn note_lines(&mut self, pricing: Pricing, lines: &[Line], fills: &[u32])
+        requires long { length fills.now ≡ length lines.now }
+        requires room { self.old.at + length lines.now < length self.old.blotter.now }
+        ensures same_reference { self.new.blotter.ghost_name ≡ self.old.blotter.ghost_name }
+        ensures long { length self.new.blotter.now ≡ length self.old.blotter.now }
+        ensures many { self.new.at ≡ self.old.at + length (note_all (paid pricing) lines.now fills.now) }
+        ensures few { self.new.at ≤ self.old.at + length lines.now }
+        ensures front { take self.new.at self.new.blotter.now ≡ take self.old.at self.old.blotter.now ++ note_all (paid pricing) lines.now fills.now }
+        ensures rest { drop self.new.at self.new.blotter.now ≡ drop self.new.at self.old.blotter.now }
+    {
+        for (line, &contracts) in lines.iter().zip(fills) {
+            self.note(Fill {
+                party: line.party,
+                price: pricing.of(line),
+                contracts,
+            });
+        }
+    }
+
+    // What was written.
+    pub(crate) fn executed(&self) -> Executed
+        requires few { self.now.at ≤ length self.now.blotter.now }
+        requires fits { total (take self.now.at self.now.blotter.now) < 2 ^ 32 }
+        ensures lines { result.lines ≡ self.now.at }
+        ensures total { result.total ≡ total (take self.now.at self.now.blotter.now) }
+    {
+        Executed {
+            lines: self.at,
+            total: self.blotter[..self.at]
+                .iter()
+                .map(|line| line.contracts)
+                .sum(),
+        }
+    }
 }

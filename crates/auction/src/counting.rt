@@ -1,7 +1,7 @@
 // Lines as they are counted.
-ghost use Rattle.std.specs.Prelude.{◌≡◌, ℕ, ◌≤◌, List, length, ℤ, ◌≤ℤ◌};
-ghost use Rattle.market.specs.Limits.{lowest_price, highest_price};
-ghost use Rattle.auction.specs.Gains.{gain, is_customer, is_pooled};
+ghost use Rattle.std.specs.Prelude.{◌≡◌, length, ◌≤ℤ◌};
+ghost use Rattle.market.specs.Limits.{lowest_price};
+ghost use Rattle.auction.specs.Gains.{gain};
 ghost use Rattle.auction.specs.Lines.{reserved_of, counted, interest_of, interest};
 
 use super::line::Line;
@@ -12,8 +12,7 @@ use market::names::{Class, Side};
 
 // What an order on a side gains at a price; and the price at which it gains so much.
 pub(crate) fn gain_at(side: Side, price: i32) -> i32
-    requires low { lowest_price ≤ℤ price }
-    requires high { price ≤ℤ highest_price }
+    requires { lowest_price ≤ℤ price }
     ensures { result ≡ gain side price }
 {
     match side {
@@ -22,34 +21,13 @@ pub(crate) fn gain_at(side: Side, price: i32) -> i32
     }
 }
 
-// Whether it is a Priority Customer.
-pub(crate) fn customer(class: Class) -> bool
-    ensures { result ≡ is_customer class }
-{
-    match class {
-        Class::Customer => true,
-        Class::Other => false,
-    }
-}
-
-// Whether it is an entry of the pool.
-fn pooled(party: Party) -> bool
-    ensures { result ≡ is_pooled party }
-{
-    match party {
-        Party::Entry(_) => true,
-        Party::Response { .. } | Party::Contra => false,
-    }
-}
-
 // The contracts of a line as counted: a response counts at most the order's size.
 fn counted_size(order: &Order, line: &Line) -> u32
     ensures { result ≡ counted order.now line.now }
 {
-    if pooled(line.party) {
-        line.size
-    } else {
-        line.size.min(order.size)
+    match line.party {
+        Party::Entry(_) => line.size,
+        Party::Response { .. } | Party::Contra => line.size.min(order.size),
     }
 }
 
@@ -57,7 +35,7 @@ fn counted_size(order: &Order, line: &Line) -> u32
 pub(crate) fn reserved(order: &Order) -> u32
     ensures { result ≡ reserved_of order.now }
 {
-    (order.size * order.reserve + 99) / 100
+    (order.size * order.reserve).div_ceil(100)
 }
 
 // A line as it is counted.
@@ -67,8 +45,8 @@ fn interest_of(order: &Order, line: &Line) -> Interest
     Interest {
         gain: gain_at(order.side, line.price),
         size: counted_size(order, line),
-        customer: customer(line.class),
-        pooled: pooled(line.party),
+        customer: line.class == Class::Customer,
+        pooled: matches!(line.party, Party::Entry(_)),
     }
 }
 
@@ -77,7 +55,7 @@ pub(crate) fn count(order: &Order, lines: &[Line], out: &mut [Interest])
     requires { length out.old ≡ length lines.now }
     ensures { out.new ≡ interest order.now lines.now }
 {
-    for i in 0..lines.len() {
-        out[i] = interest_of(order, &lines[i]);
+    for (i, line) in lines.iter().enumerate() {
+        out[i] = interest_of(order, line);
     }
 }

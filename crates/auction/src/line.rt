@@ -1,5 +1,5 @@
 // Interest against an order.
-ghost use Rattle.std.specs.Prelude.{ℕ, ◌≤◌, ℤ, ◌≤ℤ◌};
+ghost use Rattle.std.specs.Prelude.{◌≤◌, ℤ, ◌≤ℤ◌};
 ghost use Rattle.market.specs.Limits.{lowest_price, highest_price, most_size};
 
 use market::fill::Party;
@@ -8,7 +8,7 @@ use market::names::Class;
 pub mod ops;
 
 // One who stands against an order: the price in cents, and the contracts that stand.
-#[derive(Clone, Copy)]
+#[derive(Clone, Copy, PartialEq, Eq)]
 pub struct Line {
     pub party: Party,
     pub price: i32,

@@ -1,5 +1,5 @@
 // Agency orders.
-ghost use Rattle.std.specs.Prelude.{◌≡◌, ℕ, ◌≤◌, true, ℤ, ◌≤ℤ◌};
+ghost use Rattle.std.specs.Prelude.{◌≡◌, ◌≤◌, true, ℤ, ◌≤ℤ◌};
 ghost use Rattle.market.specs.Limits.{lowest_price, highest_price, most_size};
 ghost use Rattle.auction.specs.Limits.{reserve_ok};
 
@@ -9,7 +9,7 @@ pub mod ops;
 
 // An agency order in auction: its contracts, its price in cents, and the percent of it that is reserved for the
 // facilitator.
-#[derive(Clone, Copy)]
+#[derive(Clone, Copy, PartialEq, Eq)]
 pub struct Order {
     pub mechanism: Mechanism,
     pub side: Side,

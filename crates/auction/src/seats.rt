@@ -1,8 +1,7 @@
 // Lines in line order: entries of the pool by rising place, then responses, each member's slot once.
-ghost use Rattle.std.specs.Prelude.{◌≡◌, ℕ, ◌<◌, ◌≤◌, true, false, not, ◌&&◌, length, nat_le};
-ghost use Rattle.market.specs.Limits.{most_entries};
-ghost use Rattle.auction.specs.Lines.{stands_in_line, lawful};
-ghost use Rattle.auction.specs.Seats.{is_seat, seat_of, free_seat, admitted, seats_after};
+ghost use Rattle.std.specs.Prelude.{◌≡◌, ◌<◌, true};
+ghost use Rattle.auction.specs.Lines.{next_place, stands_in_line, lawful};
+ghost use Rattle.auction.specs.Seats.{is_seat, seat_of, free_seat, may_follow, seats_after};
 
 use super::limits::{MOST_MEMBERS, MOST_SLOTS};
 use super::line::Line;
@@ -11,68 +10,73 @@ use market::fill::Party;
 use market::limits::MOST_ENTRIES;
 
 // The slots of all members.
-const SEATS: usize = 64;
+const SEATS: usize = MOST_MEMBERS as usize * MOST_SLOTS as usize;
 
-// Whether a number is one of the first, counted from 1.
-fn up_to(most: u8, n: u8) -> bool
-    ensures { result ≡ nat_le 1 n && nat_le n most }
-{
-    1 <= n && n <= most
+// A slot of a member.
+#[derive(Clone, Copy)]
+struct Seat {
+    member: u8,
+    slot: u8,
 }
 
-// Whether a member has such a slot.
-fn is_seat(member: u8, slot: u8) -> bool
-    ensures { result ≡ is_seat member slot }
-{
-    up_to(MOST_MEMBERS, member) && up_to(MOST_SLOTS, slot)
+impl Seat {
+    // Whether there is such a slot.
+    fn exists(self) -> bool
+        ensures { result ≡ is_seat self.member self.slot }
+    {
+        (1..=MOST_MEMBERS).contains(&self.member) && (1..=MOST_SLOTS).contains(&self.slot)
+    }
+
+    // Its number, from 0.
+    fn number(self) -> usize
+        requires { is_seat self.member self.slot ≡ true }
+        ensures number { result ≡ seat_of self.member self.slot }
+        ensures within { result < 64 }
+    {
+        usize::from(self.member - 1) * usize::from(MOST_SLOTS) + usize::from(self.slot - 1)
+    }
 }
 
-// The number of a member's slot, from 0.
-fn seat(member: u8, slot: u8) -> usize
-    requires { is_seat member slot ≡ true }
-    ensures number { result ≡ seat_of member slot }
-    ensures within { result < 64 }
-{
-    (member as usize - 1) * 4 + (slot as usize - 1)
+// What stands in front: the place from which entries may stand behind it, and the seats that it has.
+#[derive(Drop)]
+struct Front {
+    low: usize,
+    taken: [bool; SEATS],
 }
 
-// Whether a member has such a slot, and nobody in front has it.
-fn is_free(member: u8, slot: u8, seen: &[bool]) -> bool
-    requires { length seen.now ≡ 64 }
-    ensures { result ≡ free_seat seen.now member slot }
-{
-    is_seat(member, slot) && !seen[seat(member, slot)]
-}
+impl Front {
+    // Whether there is such a seat, and nobody in front has it.
+    fn is_free(&self, seat: Seat) -> bool
+        ensures { result ≡ free_seat self.now.taken seat.member seat.slot }
+    {
+        seat.exists() && !self.taken[seat.number()]
+    }
 
-// Whether an entry may stand next, where entries stand from the place `low` on.
-fn is_next(place: usize, low: usize) -> bool
-    ensures { result ≡ nat_le low place && nat_le place most_entries }
-{
-    low <= place && place <= MOST_ENTRIES
-}
-
-// The place from which entries may stand behind a party, where it may stand next; its seat is noted.
-fn admit(party: Party, low: usize, seen: &mut [bool]) -> Option<usize>
-    requires { length seen.old ≡ 64 }
-    ensures answer { result ≡ admitted low seen.old party }
-    ensures after { seen.new ≡ seats_after seen.old party }
-{
-    match party {
-        Party::Entry(place) => {
-            if is_next(place, low) {
-                Some(place + 1)
-            } else {
-                None
+    // Whether a party may stand next. If so, it is in front from now on.
+    fn admit(&mut self, party: Party) -> bool
+        ensures answer { result ≡ may_follow self.old.low self.old.taken party }
+        ensures low { result ≡ true → self.new.low ≡ next_place party }
+        ensures taken { self.new.taken ≡ seats_after self.old.taken party }
+    {
+        match party {
+            Party::Entry(place) => {
+                let stands = (self.low..=MOST_ENTRIES).contains(&place);
+                if stands {
+                    self.low = place + 1;
+                }
+                stands
             }
-        }
-        Party::Response { member, slot } => {
-            if !is_free(member, slot, seen) {
-                return None;
+            Party::Response { member, slot } => {
+                let seat = Seat { member, slot };
+                let stands = self.is_free(seat);
+                if stands {
+                    self.low = MOST_ENTRIES + 1;
+                    self.taken[seat.number()] = true;
+                }
+                stands
             }
-            seen[seat(member, slot)] = true;
-            Some(MOST_ENTRIES + 1)
+            Party::Contra => false,
         }
-        Party::Contra => None,
     }
 }
 
@@ -80,12 +84,14 @@ fn admit(party: Party, low: usize, seen: &mut [bool]) -> Option<usize>
 fn in_line(lines: &[Line]) -> bool
     ensures { result ≡ stands_in_line lines.now }
 {
-    let mut seen = [false; SEATS];
-    let mut low: usize = 1;
+    let mut front = Front {
+        low: 1,
+        taken: [false; SEATS],
+    };
+    // By hand: `all` would take a closure that changes `front` at each line, and is no plainer.
     for line in lines {
-        match admit(line.party, low, &mut seen) {
-            Some(next) => low = next,
-            None => return false,
+        if !front.admit(line.party) {
+            return false;
         }
     }
     true

@@ -1,14 +1,12 @@
 // Settling an order.
-ghost use Rattle.std.specs.Prelude.{◌≡◌, ℕ, ◌^◌, ◌<◌, ◌≤◌, true, List, length};
-ghost use Rattle.std.specs.List.{AllByRecursion};
+ghost use Rattle.std.specs.Prelude.{◌≡◌, ◌≤◌, true, length};
 ghost use Rattle.auction.specs.Lines.{interest, lawful};
 ghost use Rattle.auction.specs.Terms.{terms_of};
-ghost use Rattle.auction.specs.Pricing.{pricing_in, paid, Priced};
-ghost use Rattle.auction.specs.Settlement.{settlement, blotted, fills_of, total};
-ghost use Rattle.auction.specs.declared.settled.Settled.TheVariants.{Executed};
+ghost use Rattle.auction.specs.Pricing.{pricing_in};
+ghost use Rattle.auction.specs.Settlement.{settlement, fills_of};
 ghost use Rattle.auction.specs.Answers.{answer_of, written_over, settle_answer, after_settle, Keeps};
 
-use super::blotter::{Pricing, note, note_lines, total_of};
+use super::blotter::{Notes, Pricing};
 use super::counting::{count, gain_at, reserved};
 use super::limits::LEAST_BLOTTER;
 use super::line::Line;
@@ -18,7 +16,7 @@ use super::settled::Settled;
 use deal::allocate::allocate;
 use deal::better::better_total;
 use deal::block::block_gain;
-use deal::terms::{Allocation, MOST_LINES, Terms};
+use deal::terms::{MOST_LINES, Terms};
 use filling::interest::Interest;
 use market::fill::{Fill, Party};
 use market::names::Mechanism;
@@ -39,45 +37,19 @@ fn terms_of(order: &Order) -> Terms
 // How the lines are priced: at their own prices, but customers at the order's in a facilitation that better lines do not
 // fill, and all at one price in a block.
 fn pricing_of(order: &Order, counted: &[Interest]) -> Pricing
-    requires few { length counted.now ≤ 128 }
-    requires priced { AllByRecursion Priced counted.now }
+    requires { length counted.now ≤ 128 }
     ensures { result ≡ pricing_in order.now.mechanism order.now counted.now }
 {
     let gain = gain_at(order.side, order.price);
     match order.mechanism {
-        Mechanism::Facilitation => match better_total(gain, counted) {
-            Ok(better) if better < order.size => Pricing::CustomersAt(order.price),
-            Ok(_) => Pricing::Own,
-            Err(_) => unreachable(),
-        },
-        Mechanism::Solicited => Pricing::Own,
-        Mechanism::Block => match block_gain(order.size, gain, counted) {
-            Ok(best) => Pricing::AllAt(gain_at(order.side, best)),
-            Err(_) => unreachable(),
-        },
-    }
-}
-
-// Writes the fills of an order that executes onto the blotter, the contra's last.
-fn write_fills(
-    order: &Order,
-    lines: &[Line],
-    pricing: Pricing,
-    fills: &[u32],
-    contra: u32,
-    blotter: &mut [Fill],
-) -> Settled
-    requires long { length fills.now ≡ length lines.now }
-    requires room { length lines.now < length blotter.old }
-    requires fits { total (blotted order.now (paid pricing) lines.now fills.now contra) < 2 ^ 32 }
-    ensures answer { result ≡ Executed (length (blotted order.now (paid pricing) lines.now fills.now contra)) (total (blotted order.now (paid pricing) lines.now fills.now contra)) }
-    ensures after { blotter.new ≡ written_over (blotted order.now (paid pricing) lines.now fills.now contra) blotter.old }
-{
-    let at = note_lines(pricing, lines, fills, blotter);
-    let n = note(Party::Contra, order.price, contra, at, blotter);
-    Settled::Executed {
-        lines: n,
-        total: total_of(&blotter[0..n]),
+        Mechanism::Facilitation if better_total(gain, counted).unwrap() < order.size => {
+            Pricing::CustomersAt(order.price)
+        }
+        Mechanism::Facilitation | Mechanism::Solicited => Pricing::Own,
+        Mechanism::Block => {
+            let best = block_gain(order.size, gain, counted).unwrap();
+            Pricing::AllAt(gain_at(order.side, best))
+        }
     }
 }
 
@@ -96,14 +68,15 @@ fn settle_counted(
     ensures answer { result ≡ answer_of (settlement order.now lines.now) }
     ensures after { blotter.new ≡ written_over (fills_of (settlement order.now lines.now)) blotter.old }
 {
-    match allocate(&terms_of(order), counted, fills) {
-        Ok(Allocation::Executed(contra)) => {
-            let pricing = pricing_of(order, counted);
-            write_fills(order, lines, pricing, fills, contra, blotter)
-        }
-        Ok(Allocation::Cancelled(reason)) => Settled::Cancelled(reason),
-        Err(_) => unreachable(),
-    }
+    let contra = allocate(&terms_of(order), counted, fills).unwrap()?;
+    let mut notes = Notes::new(blotter);
+    notes.note_lines(pricing_of(order, counted), lines, fills);
+    notes.note(Fill {
+        party: Party::Contra,
+        price: order.price,
+        contracts: contra,
+    });
+    Ok(notes.executed())
 }
 
 // Settles an order against lines in line order: entries of the pool by rising place, then responses. Fills go onto the
@@ -120,6 +93,7 @@ pub fn settle(order: &Order, lines: &[Line], blotter: &mut [Fill]) -> Result<Set
     if blotter.len() < LEAST_BLOTTER {
         return Err(Refusal::BlotterShort);
     }
+    // By hand: an `ArrayVec` of lines would need a `Default` of `Interest`, which cannot be derived beside a ghost field.
     let nobody = Interest {
         gain: 0,
         size: 0,
@@ -127,10 +101,8 @@ pub fn settle(order: &Order, lines: &[Line], blotter: &mut [Fill]) -> Result<Set
         pooled: false,
     };
     let mut table = [nobody; MOST_LINES];
-    let mut fills = [0u32; MOST_LINES];
-    let n = lines.len();
-    let counted = &mut table[0..n];
+    let counted = &mut table[..lines.len()];
     count(order, lines, counted);
-    let settled = settle_counted(order, lines, counted, &mut fills[0..n], blotter);
-    Ok(settled)
+    let mut fills = [0u32; MOST_LINES];
+    Ok(settle_counted(order, lines, counted, &mut fills[..lines.len()], blotter))
 }

@@ -14,8 +14,8 @@ use market::refusal::Refusal;
 fn line_ok(price: i64, size: i64) -> bool
     ensures { result ≡ line_ok price size }
 {
-    in_range(price, LOWEST_PRICE as i64, HIGHEST_PRICE as i64)
-        && in_range(size, 1, MOST_SIZE as i64)
+    in_range(price, i64::from(LOWEST_PRICE), i64::from(HIGHEST_PRICE))
+        && in_range(size, 1, i64::from(MOST_SIZE))
 }
 
 impl Line {
@@ -26,6 +26,7 @@ impl Line {
         if !line_ok(price, size) {
             return Err(Refusal::OutOfLimits);
         }
+        // By hand: `try_from` tests the types' limits, which are wider than these, and `Entry::new` would want a side.
         Ok(Line {
             party,
             price: price as i32,

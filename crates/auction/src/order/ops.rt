@@ -15,7 +15,7 @@ fn most_reserve(mechanism: Mechanism) -> i64
     ensures { result ≡ pos (if is_facilitation mechanism then most_reserve else 0) }
 {
     match mechanism {
-        Mechanism::Facilitation => MOST_RESERVE as i64,
+        Mechanism::Facilitation => i64::from(MOST_RESERVE),
         Mechanism::Block | Mechanism::Solicited => 0,
     }
 }
@@ -24,8 +24,8 @@ fn most_reserve(mechanism: Mechanism) -> i64
 fn order_ok(mechanism: Mechanism, size: i64, price: i64, reserve: i64) -> bool
     ensures { result ≡ order_ok mechanism size price reserve }
 {
-    in_range(size, 1, MOST_SIZE as i64)
-        && in_range(price, LOWEST_PRICE as i64, HIGHEST_PRICE as i64)
+    in_range(size, 1, i64::from(MOST_SIZE))
+        && in_range(price, i64::from(LOWEST_PRICE), i64::from(HIGHEST_PRICE))
         && in_range(reserve, 0, most_reserve(mechanism))
 }
 
@@ -43,6 +43,7 @@ impl Order {
         if !order_ok(mechanism, size, price, reserve) {
             return Err(Refusal::OutOfLimits);
         }
+        // By hand: `try_from` tests the types' limits, which are wider than these.
         Ok(Order {
             mechanism,
             side,
