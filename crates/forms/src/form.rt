@@ -68,9 +68,6 @@ impl Form {
     pub fn is_house(&self) -> bool
         ensures { result ≡ is_house (shape self.now) }
     {
-        match self {
-            Form::House { .. } => true,
-            _ => false,
-        }
+        matches!(self, Form::House { .. })
     }
 }

@@ -104,13 +104,15 @@ impl fmt::Display for Form {
                 };
                 write!(f, "(quote {leg} {edge} {price} ({sizes}))")
             }
-            Form::Rest(Resting {
-                number,
-                side,
-                price,
-                size,
-                class,
-            }) => write!(f, "(rest {number} {side} {price} {size} {class})"),
+            Form::Rest(
+                Resting {
+                    number,
+                    side,
+                    price,
+                    size,
+                    class,
+                },
+            ) => write!(f, "(rest {number} {side} {price} {size} {class})"),
             Form::Away { side, price } => write!(f, "(away {side} {price})"),
             Form::Enter {
                 mechanism,

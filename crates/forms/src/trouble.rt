@@ -44,11 +44,11 @@ pub struct Trouble {
     pub found: Found,
 }
 
-impl Expected {
-    fn text(&self) -> &'static str
-        ensures { result.now ≡ expected_text self.now }
-    {
-        match self {
+impl fmt::Display for Expected {
+    ghost output = { λ x. Some (expected_text x) };
+
+    fn fmt<W: fmt::Write>(&self, f: &mut fmt::Formatter<W>) -> fmt::Result {
+        f.write_str(match self {
             Expected::Form => "a form or a comment",
             Expected::Name => "the name of a form",
             Expected::Number => "a number",
@@ -65,31 +65,7 @@ impl Expected {
             Expected::Size => "a size or a closing bracket",
             Expected::Leg => "a leg or a closing bracket",
             Expected::LineEnd => "the end of the line",
-        }
-    }
-}
-
-impl fmt::Display for Expected {
-    ghost output = { λ x. Some (expected_text x) };
-
-    fn fmt<W: fmt::Write>(&self, f: &mut fmt::Formatter<W>) -> fmt::Result {
-        let text = self.text();
-        write!(f, "{text}")
-    }
-}
-
-impl Found {
-    fn text(&self) -> &'static str
-        ensures { result.now ≡ found_text self.now }
-    {
-        match self {
-            Found::Opening => "an opening bracket",
-            Found::Closing => "a closing bracket",
-            Found::Word => "another word",
-            Found::BadByte => "a byte that no form has",
-            Found::LongWord => "a word of over 16 bytes",
-            Found::LineEnd => "the end of the line",
-        }
+        })
     }
 }
 
@@ -97,8 +73,14 @@ impl fmt::Display for Found {
     ghost output = { λ x. Some (found_text x) };
 
     fn fmt<W: fmt::Write>(&self, f: &mut fmt::Formatter<W>) -> fmt::Result {
-        let text = self.text();
-        write!(f, "{text}")
+        f.write_str(match self {
+            Found::Opening => "an opening bracket",
+            Found::Closing => "a closing bracket",
+            Found::Word => "another word",
+            Found::BadByte => "a byte that no form has",
+            Found::LongWord => "a word of over 16 bytes",
+            Found::LineEnd => "the end of the line",
+        })
     }
 }
 
