@@ -7,7 +7,7 @@ use crate::trouble::Trouble;
 use std::fmt;
 
 // What is wrong with the place of the house form.
-#[derive(Clone, Copy)]
+#[derive(Clone, Copy, PartialEq, Eq)]
 pub enum Stray {
     // another form comes first
     Late,
@@ -18,7 +18,7 @@ pub enum Stray {
 }
 
 // The fault of a sheet: its length, a line outside the grammar, or a house form that is not first and once.
-#[derive(Clone, Copy)]
+#[derive(Clone, Copy, PartialEq, Eq)]
 pub enum Fault {
     TooLong,
     Outside { line: u32, trouble: Trouble },

@@ -5,7 +5,7 @@ ghost use Rattle.forms.specs.Texts.{expected_text, found_text, trouble_text};
 use std::fmt;
 
 // What the reader looked for.
-#[derive(Clone, Copy)]
+#[derive(Clone, Copy, PartialEq, Eq)]
 pub enum Expected {
     Form,
     Name,
@@ -26,7 +26,7 @@ pub enum Expected {
 }
 
 // What stood there.
-#[derive(Clone, Copy)]
+#[derive(Clone, Copy, PartialEq, Eq)]
 pub enum Found {
     Opening,
     Closing,
@@ -37,7 +37,7 @@ pub enum Found {
 }
 
 // Where a line leaves the grammar: the column, what was looked for there, and what stood there.
-#[derive(Clone, Copy)]
+#[derive(Clone, Copy, PartialEq, Eq)]
 pub struct Trouble {
     pub column: u32,
     pub expected: Expected,
