@@ -5,7 +5,7 @@ ghost use Rattle.words.specs.Bytes.{next, run, behind, Skips};
 ghost use Rattle.words.specs.Place.{line_at, column_at, Onto};
 ghost use Rattle.words.specs.View.{rest, tokens, words_in, Took, Cut, NextWord, CutWord};
 
-use super::Scanner;
+use super::{LONGEST, Scanner};
 use crate::bytes::{Kind, kind_of};
 use crate::token::{Token, Word};
 
@@ -17,20 +17,12 @@ fn is_long(word: Word) -> bool
 }
 
 impl<'a> Scanner<'a> {
-    // At the start of a sheet, of which 65,536 bytes are read.
+    // At the start of a sheet, of which the first LONGEST bytes are read.
     pub fn new(sheet: &'a [u8]) -> Self
-        ensures { (result.sheet.now ≡ take 65536 sheet.now) × (result.at ≡ 0) × (result.line ≡ 1) × (result.column ≡ 1) }
+        ensures { (result.sheet.now ≡ take LONGEST sheet.now) × (result.at ≡ 0) × (result.line ≡ 1) × (result.column ≡ 1) }
     {
-        if sheet.len() > 65536 {
-            return Scanner {
-                sheet: &sheet[0..65536],
-                at: 0,
-                line: 1,
-                column: 1,
-            };
-        }
         Scanner {
-            sheet,
+            sheet: &sheet[..LONGEST.min(sheet.len())],
             at: 0,
             line: 1,
             column: 1,
@@ -45,22 +37,13 @@ impl<'a> Scanner<'a> {
         ensures line { self.new.line ≡ (if nat_eq (slice_index self.old.sheet.now self.old.at) 10 then self.old.line + 1 else self.old.line) }
         ensures column { self.new.column ≡ (if nat_eq (slice_index self.old.sheet.now self.old.at) 10 then 1 else self.old.column + 1) }
     {
-        let at = self.at;
-        if self.sheet[at] == b'\n' {
-            *self = Scanner {
-                sheet: self.sheet,
-                at: at + 1,
-                line: self.line + 1,
-                column: 1,
-            };
+        if self.sheet[self.at] == b'\n' {
+            self.line += 1;
+            self.column = 1;
         } else {
-            *self = Scanner {
-                sheet: self.sheet,
-                at: at + 1,
-                line: self.line,
-                column: self.column + 1,
-            };
+            self.column += 1;
         }
+        self.at += 1;
     }
 
     // Whether no byte is left.
@@ -173,8 +156,7 @@ impl<'a> Scanner<'a> {
     pub fn line_number(&self) -> u32
         ensures { result ≡ self.now.line }
     {
-        let Scanner { line, .. } = *self;
-        line
+        self.line
     }
 
     // Moves to the start of the next line, or to the end of the sheet where there is none.
