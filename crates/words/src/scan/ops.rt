@@ -57,11 +57,9 @@ impl<'a> Scanner<'a> {
     fn peek(&self) -> Kind
         ensures { result ≡ next (rest self.now) }
     {
-        if self.at < self.sheet.len() {
-            kind_of(self.sheet[self.at])
-        } else {
-            Kind::LineEnd
-        }
+        self.sheet
+            .get(self.at)
+            .map_or(Kind::LineEnd, |b| kind_of(*b))
     }
 
     // The longest run of a word's bytes from here.
@@ -75,17 +73,14 @@ impl<'a> Scanner<'a> {
         ensures place { (result.line ≡ line_at self.old.sheet.now self.old.at) × (result.column ≡ column_at self.old.sheet.now self.old.at) }
         ensures here { (result.line ≡ self.old.line) × (result.column ≡ self.old.column) }
     {
-        let sheet = self.sheet;
-        let start = self.at;
-        let line = self.line;
-        let column = self.column;
-        while let Kind::Letter = self.peek() {
+        let start = *self;
+        while self.peek() == Kind::Letter {
             self.step();
         }
         Word {
-            bytes: &sheet[start..self.at],
-            line,
-            column,
+            bytes: &start.sheet[start.at..self.at],
+            line: start.line,
+            column: start.column,
         }
     }
 
@@ -97,12 +92,10 @@ impl<'a> Scanner<'a> {
         ensures next { result ≡ next (rest self.new) }
         ensures other { result ≢ Space }
     {
-        loop {
-            match self.peek() {
-                Kind::Space => self.step(),
-                kind => return kind,
-            }
+        while self.peek() == Kind::Space {
+            self.step();
         }
+        self.peek()
     }
 
     // The next token of the line. Where the reading of the line ends with it, the scanner stays before it.
@@ -164,11 +157,8 @@ impl<'a> Scanner<'a> {
         ensures { (self.new.sheet.now ≡ self.old.sheet.now)
             × Onto result (behind (rest self.old)) (rest self.new) self.old.line self.new.line self.new.column }
     {
-        loop {
-            match self.peek() {
-                Kind::LineEnd => break,
-                _ => self.step(),
-            }
+        while self.peek() != Kind::LineEnd {
+            self.step();
         }
         if self.at_end() {
             return false;
