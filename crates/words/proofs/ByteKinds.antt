@@ -40,7 +40,7 @@ pub record LetterAt (s : List ℕ) (at : ℕ) : Type 0 where
 
 pub letter_at : (s : List ℕ) (at : ℕ) → next (drop at s) ≡ Letter → LetterAt s at
 letter_at s at e =
-    let l = within s at (λ f. let z : ◌≡◌ {A = ℕ} 0 1 = cc in omega arith) in
+    let l = within s at (λ f. cc) in
     let t = told_at s at Letter l e in
     record {
       inside = l;

@@ -35,7 +35,7 @@ lex_end l c (b ∷ bs) e = ap (λ k. by_kind k l c b bs (lex l (c + 1) bs)) e
 
 pub lex_bad : (l c : ℕ) (s : List ℕ) (k : Kind) → (k ≡ Space → ⊥) → (k ≡ Space) ⊎ ((k ≡ Semicolon) ⊎ (k ≡ Other)) → k ≡ next s → lex l c s ≡ bad_byte c ∷ []
 lex_bad l c s k other (inl i) e = absurd (other i)
-lex_bad l c [] k other (inr (inl i)) e = let z : ◌≡◌ {A = ℕ} 0 1 = cc in absurd (omega arith)
-lex_bad l c [] k other (inr (inr i)) e = let z : ◌≡◌ {A = ℕ} 0 1 = cc in absurd (omega arith)
+lex_bad l c [] k other (inr (inl i)) e = cc
+lex_bad l c [] k other (inr (inr i)) e = cc
 lex_bad l c (b ∷ bs) k other (inr (inl i)) e = ap (λ j. by_kind j l c b bs (lex l (c + 1) bs)) (sym e ∙ i)
 lex_bad l c (b ∷ bs) k other (inr (inr i)) e = ap (λ j. by_kind j l c b bs (lex l (c + 1) bs)) (sym e ∙ i)

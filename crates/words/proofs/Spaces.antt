@@ -1,5 +1,5 @@
 -- Spaces that are passed.
-use Rattle.std.proofs.Common.{◌≡◌, ℕ, ◌+◌, cond, eqb, get_or, List, [], ◌∷◌, drop, sym, refl, ap, ◌∙◌, subst, subst₂, arith}
+use Rattle.std.proofs.Common.{◌≡◌, ℕ, ◌+◌, cond, eqb, get_or, List, [], ◌∷◌, drop, sym, refl, ap, ◌∙◌, subst, subst₂}
 use Rattle.words.specs.declared.scan.Scanner.{Scanner}
 use Rattle.words.specs.declared.bytes.Kind.TheVariants.{Space}
 use Rattle.words.specs.Bytes.{next, behind, Skips, none, more}
@@ -19,7 +19,7 @@ skips_more {c} none u e = subst (λ s. Skips c s (c + 1) u) (sym e) (more none)
 skips_more (more p) u e = more (skips_more p u e)
 
 space_first : (s : List ℕ) → next s ≡ Space → s ≡ 32 ∷ drop 1 s
-space_first [] e = let z : ◌≡◌ {A = ℕ} 0 1 = cc in absurd (omega arith)
+space_first [] e = cc
 space_first (b ∷ bs) e = let t : b ≡ 32 = subst (λ k. Told k b) e (told b) in ap (λ x. x ∷ bs) t
 
 pub past_more : (o r q : Scanner) → Past o r → next (rest r) ≡ Space → q.at ≡ r.at + 1 → q.sheet.now ≡ r.sheet.now → q.line ≡ cond (eqb (get_or r.sheet.now r.at 0) 10) (r.line + 1) r.line → q.column ≡ cond (eqb (get_or r.sheet.now r.at 0) 10) 1 (r.column + 1) → Past o q

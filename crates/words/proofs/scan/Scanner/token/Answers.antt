@@ -1,4 +1,4 @@
-use Rattle.std.proofs.Common.{◌≡◌, ℕ, ◌<◌, [], ◌∷◌, length, take, drop, sym, ap, ◌∙◌, arith}
+use Rattle.std.proofs.Common.{◌≡◌, ◌<◌, [], ◌∷◌, length, take, drop, sym, ap, ◌∙◌}
 use Rattle.std.proofs.lemmas.Bool.{cond-true, cond-false, le-leb, lt-leb, ltb-true, ltb-false}
 use Rattle.words.specs.declared.bytes.Kind.{Kind}
 use Rattle.words.specs.declared.bytes.Kind.TheVariants.{LineEnd, Open, Close}
@@ -18,10 +18,10 @@ inside : (r : Scanner) (k : Kind) → k ≡ next (rest r) → (k ≡ LineEnd →
 inside r k e on = within r.sheet.now r.at (λ f. on (e ∙ f))
 
 pub step-requires : goal.step-requires
-step-requires c = inside c.spaces.new.self Open c.in-Open.ensures.next (λ e. let z : ◌≡◌ {A = ℕ} 0 1 = cc in omega arith)
+step-requires c = inside c.spaces.new.self Open c.in-Open.ensures.next (λ e. cc)
 
 pub step-requires-in-Close : goal.step-requires-in-Close
-step-requires-in-Close c = inside c.spaces.new.self Close c.in-Close.ensures.next (λ e. let z : ◌≡◌ {A = ℕ} 0 1 = cc in omega arith)
+step-requires-in-Close c = inside c.spaces.new.self Close c.in-Close.ensures.next (λ e. cc)
 
 pub returns-in-LineEnd : goal.returns-in-LineEnd
 returns-in-LineEnd c =
@@ -37,7 +37,7 @@ returns-in-Open c =
     let r = c.spaces.new.self in
     let s = c.in-Open.ensures in
     let m = c.step.ensures in
-    let t = step_is r c.step.new.self Open (sym s.next) (λ e. let z : ◌≡◌ {A = ℕ} 0 1 = cc in omega arith) m.at m.sheet m.line m.column in
+    let t = step_is r c.step.new.self Open (sym s.next) (λ e. cc) m.at m.sheet m.line m.column in
     record { sheet = t.same ∙ s.sheet; read = spaces_tokens o r s.line s.skips ∙ t.read.1; part = tt }
 
 pub returns-in-Close : goal.returns-in-Close
@@ -46,7 +46,7 @@ returns-in-Close c =
     let r = c.spaces.new.self in
     let s = c.in-Close.ensures in
     let m = c.step-in-Close.ensures in
-    let t = step_is r c.step-in-Close.new.self Close (sym s.next) (λ e. let z : ◌≡◌ {A = ℕ} 0 1 = cc in omega arith) m.at m.sheet m.line m.column in
+    let t = step_is r c.step-in-Close.new.self Close (sym s.next) (λ e. cc) m.at m.sheet m.line m.column in
     record { sheet = t.same ∙ s.sheet; read = spaces_tokens o r s.line s.skips ∙ t.read.1; part = tt }
 
 pub returns-then-is_long : goal.returns-then-is_long
