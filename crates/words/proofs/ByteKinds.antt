@@ -48,14 +48,6 @@ letter_at s at e =
       more = at_drop_more run s at 0 l ∙ cond-true _ _ _ t.0 ∙ sym (add-one (run (drop (at + 1) s)));
     }
 
-pub no_letter : (s : List ℕ) → (next s ≡ Letter → ⊥) → run s ≡ 0
-no_letter [] h = refl
-no_letter (b ∷ bs) h = go (word_byte b) refl
-  where
-    go : (w : Bool) → word_byte b ≡ w → run (b ∷ bs) ≡ 0
-    go true e = absurd (h (word_kind b e))
-    go false e = cond-false _ _ _ e
-
 pub not_end : (k : Kind) (b : ℕ) → Told k b → (k ≡ LineEnd → ⊥) → b ≡ 10 → ⊥
 not_end LineEnd b t h e = h refl
 not_end Space b t h e = omega arith
