@@ -104,15 +104,15 @@ impl<'a> Scanner<'a> {
         ensures read { Took result (tokens self.old) (tokens self.new) }
         ensures part { Cut self.old.sheet.now result }
     {
-        match self.spaces() {
-            Kind::LineEnd => Token::End(self.column),
+        let next = self.spaces();
+        let column = self.column;
+        match next {
+            Kind::LineEnd => Token::End(column),
             Kind::Open => {
-                let column = self.column;
                 self.step();
                 Token::Open(column)
             }
             Kind::Close => {
-                let column = self.column;
                 self.step();
                 Token::Close(column)
             }
@@ -121,12 +121,12 @@ impl<'a> Scanner<'a> {
                 let word = self.word();
                 if is_long(word) {
                     *self = start;
-                    Token::LongWord(word.column)
+                    Token::LongWord(column)
                 } else {
                     Token::Word(word)
                 }
             }
-            Kind::Space | Kind::Semicolon | Kind::Other => Token::BadByte(self.column),
+            Kind::Space | Kind::Semicolon | Kind::Other => Token::BadByte(column),
         }
     }
 
