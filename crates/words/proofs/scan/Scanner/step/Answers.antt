@@ -9,7 +9,7 @@ invariant_of-self-clause-row c =
     let s = c.args.self.now in
     let more = line_more s.sheet.now s.at c.requires in
     elim c.if-self-eq10.branch [
-      then-self-eq10 w ↦ rw w.self-is (ap (λ x. x + 1) s.row ∙ sym (more ∙ cond-true _ _ _ (eq-eqb _ _ w.if-self-eq10.true)))
+      | then-self-eq10 w ↦ rw w.self-is (ap (λ x. x + 1) s.row ∙ sym (more ∙ cond-true _ _ _ (eq-eqb _ _ w.if-self-eq10.true)))
       | else-self-eq10 w ↦ rw w.self-is (s.row ∙ sym (more ∙ cond-false _ _ _ (ne_eqb _ _ w.if-self-eq10.false)))
     ]
 
@@ -18,6 +18,6 @@ invariant_of-self-clause-col c =
     let s = c.args.self.now in
     let more = column_more s.sheet.now s.at c.requires in
     elim c.if-self-eq10.branch [
-      then-self-eq10 w ↦ rw w.self-is (sym (more ∙ cond-true _ _ _ (eq-eqb _ _ w.if-self-eq10.true)))
+      | then-self-eq10 w ↦ rw w.self-is (sym (more ∙ cond-true _ _ _ (eq-eqb _ _ w.if-self-eq10.true)))
       | else-self-eq10 w ↦ rw w.self-is (ap (λ x. x + 1) s.col ∙ sym (more ∙ cond-false _ _ _ (ne_eqb _ _ w.if-self-eq10.false)))
     ]
