@@ -1,10 +1,15 @@
 -- The plain spelling of a form: one space between words and lists, none beside a bracket within.
-use Rattle.std.specs.Prelude.{ℕ, List, [], ◌∷◌, ◌++◌, ℤ, codes}
-use Rattle.std.specs.Fmt.{signed_decimal}
+use Rattle.std.specs.Prelude.{ℕ, List, [], ◌∷◌, ◌++◌, ℤ, Some, Option, codes}
+use Rattle.std.specs.Fmt.{◌++?◌, signed_decimal}
 use Rattle.market.specs.Names.{side_name, leg_text, class_name, mechanism_name, edge_name}
 use Rattle.market.specs.declared.names.Leg.{Leg}
 use Rattle.forms.specs.declared.form.Response.{Response}
 use Rattle.forms.specs.Shapes.{Shape, series, net, quote, rest, away, enter, respond, amend, delete, settle, halt}
+
+-- each item behind a space, if each has a text
+abbrev pub spaced_text : {X : Type 0} → (X → Option (List ℕ)) → List X → Option (List ℕ)
+spaced_text text [] = Some []
+spaced_text text (x ∷ xs) = Some (codes " ") ++? (text x ++? spaced_text text xs)
 
 -- each leg behind a space
 abbrev pub legs_text : List Leg → List ℕ

@@ -7,7 +7,7 @@ use crate::trouble::Trouble;
 use std::fmt;
 
 // What is wrong with the place of the house form.
-#[derive(Clone, Copy)]
+#[derive(Clone, Copy, PartialEq, Eq)]
 pub enum Stray {
     // another form comes first
     Late,
@@ -18,7 +18,7 @@ pub enum Stray {
 }
 
 // The fault of a sheet: its length, a line outside the grammar, or a house form that is not first and once.
-#[derive(Clone, Copy)]
+#[derive(Clone, Copy, PartialEq, Eq)]
 pub enum Fault {
     TooLong,
     Outside { line: u32, trouble: Trouble },
@@ -43,20 +43,7 @@ impl Fault {
     {
         match self {
             Fault::TooLong => 1,
-            Fault::Outside { line, .. } => *line,
-            Fault::House { line, .. } => *line,
-        }
-    }
-}
-
-impl Stray {
-    fn text(&self) -> &'static str
-        ensures { result.now ≡ stray_text self.now }
-    {
-        match self {
-            Stray::Late => "the first form is no house form",
-            Stray::Again => "a second house form",
-            Stray::Missing => "there is no house form",
+            Fault::Outside { line, .. } | Fault::House { line, .. } => *line,
         }
     }
 }
@@ -65,8 +52,11 @@ impl fmt::Display for Stray {
     ghost output = { λ x. Some (stray_text x) };
 
     fn fmt<W: fmt::Write>(&self, f: &mut fmt::Formatter<W>) -> fmt::Result {
-        let text = self.text();
-        write!(f, "{text}")
+        f.write_str(match self {
+            Stray::Late => "the first form is no house form",
+            Stray::Again => "a second house form",
+            Stray::Missing => "there is no house form",
+        })
     }
 }
 

@@ -1,24 +1,24 @@
 // The plain spelling of forms: one space between words and lists, none beside a bracket within.
 ghost use Rattle.std.specs.Prelude.{Some};
 ghost use Rattle.forms.specs.Shapes.{shape};
-ghost use Rattle.forms.specs.Spelled.{legs_text, numbers_text, response_text, terms_text, spelling};
+ghost use Rattle.forms.specs.Spelled.{spaced_text, numbers_text, response_text, terms_text, spelling};
 
 use crate::form::{Form, Market, Response};
-use market::names::Leg;
+use market::resting::Resting;
 use std::fmt;
 
-// Each leg behind a space.
+// Each item behind a space.
 #[derive(Drop)]
-struct Legs<'a> {
-    legs: &'a [Leg],
+struct Spaced<'a, T> {
+    items: &'a [T],
 }
 
-impl<'a> fmt::Display for Legs<'a> {
-    ghost output = { λ x. Some (legs_text x.legs.now) };
+impl<'a, T: fmt::Display> fmt::Display for Spaced<'a, T> {
+    ghost output = { λ x. spaced_text T.output x.items.now };
 
     fn fmt<W: fmt::Write>(&self, f: &mut fmt::Formatter<W>) -> fmt::Result {
-        for leg in self.legs {
-            write!(f, " {leg}")?;
+        for item in self.items {
+            write!(f, " {item}")?;
         }
         Ok(())
     }
@@ -37,11 +37,8 @@ impl<'a> fmt::Display for Numbers<'a> {
         let [first, rest @ ..] = self.numbers else {
             return Ok(());
         };
-        write!(f, "{first}")?;
-        for n in rest {
-            write!(f, " {n}")?;
-        }
-        Ok(())
+        let rest = Spaced { items: rest };
+        write!(f, "{first}{rest}")
     }
 }
 
@@ -86,8 +83,8 @@ impl fmt::Display for Form {
             Form::House { number, market } => match market {
                 Market::Series => write!(f, "(house {number} series)"),
                 Market::Net(legs) => {
-                    let legs = Legs {
-                        legs: legs.as_slice(),
+                    let legs = Spaced {
+                        items: legs.as_slice(),
                     };
                     write!(f, "(house {number} net{legs})")
                 }
@@ -103,13 +100,15 @@ impl fmt::Display for Form {
                 };
                 write!(f, "(quote {leg} {edge} {price} ({sizes}))")
             }
-            Form::Rest {
-                number,
-                side,
-                price,
-                size,
-                class,
-            } => write!(f, "(rest {number} {side} {price} {size} {class})"),
+            Form::Rest(
+                Resting {
+                    number,
+                    side,
+                    price,
+                    size,
+                    class,
+                },
+            ) => write!(f, "(rest {number} {side} {price} {size} {class})"),
             Form::Away { side, price } => write!(f, "(away {side} {price})"),
             Form::Enter {
                 mechanism,

@@ -5,7 +5,7 @@ ghost use Rattle.forms.specs.Texts.{expected_text, found_text, trouble_text};
 use std::fmt;
 
 // What the reader looked for.
-#[derive(Clone, Copy)]
+#[derive(Clone, Copy, PartialEq, Eq)]
 pub enum Expected {
     Form,
     Name,
@@ -26,7 +26,7 @@ pub enum Expected {
 }
 
 // What stood there.
-#[derive(Clone, Copy)]
+#[derive(Clone, Copy, PartialEq, Eq)]
 pub enum Found {
     Opening,
     Closing,
@@ -37,18 +37,18 @@ pub enum Found {
 }
 
 // Where a line leaves the grammar: the column, what was looked for there, and what stood there.
-#[derive(Clone, Copy)]
+#[derive(Clone, Copy, PartialEq, Eq)]
 pub struct Trouble {
     pub column: u32,
     pub expected: Expected,
     pub found: Found,
 }
 
-impl Expected {
-    fn text(&self) -> &'static str
-        ensures { result.now ≡ expected_text self.now }
-    {
-        match self {
+impl fmt::Display for Expected {
+    ghost output = { λ x. Some (expected_text x) };
+
+    fn fmt<W: fmt::Write>(&self, f: &mut fmt::Formatter<W>) -> fmt::Result {
+        f.write_str(match self {
             Expected::Form => "a form or a comment",
             Expected::Name => "the name of a form",
             Expected::Number => "a number",
@@ -65,31 +65,7 @@ impl Expected {
             Expected::Size => "a size or a closing bracket",
             Expected::Leg => "a leg or a closing bracket",
             Expected::LineEnd => "the end of the line",
-        }
-    }
-}
-
-impl fmt::Display for Expected {
-    ghost output = { λ x. Some (expected_text x) };
-
-    fn fmt<W: fmt::Write>(&self, f: &mut fmt::Formatter<W>) -> fmt::Result {
-        let text = self.text();
-        write!(f, "{text}")
-    }
-}
-
-impl Found {
-    fn text(&self) -> &'static str
-        ensures { result.now ≡ found_text self.now }
-    {
-        match self {
-            Found::Opening => "an opening bracket",
-            Found::Closing => "a closing bracket",
-            Found::Word => "another word",
-            Found::BadByte => "a byte that no form has",
-            Found::LongWord => "a word of over 16 bytes",
-            Found::LineEnd => "the end of the line",
-        }
+        })
     }
 }
 
@@ -97,8 +73,14 @@ impl fmt::Display for Found {
     ghost output = { λ x. Some (found_text x) };
 
     fn fmt<W: fmt::Write>(&self, f: &mut fmt::Formatter<W>) -> fmt::Result {
-        let text = self.text();
-        write!(f, "{text}")
+        f.write_str(match self {
+            Found::Opening => "an opening bracket",
+            Found::Closing => "a closing bracket",
+            Found::Word => "another word",
+            Found::BadByte => "a byte that no form has",
+            Found::LongWord => "a word of over 16 bytes",
+            Found::LineEnd => "the end of the line",
+        })
     }
 }
 

@@ -40,21 +40,13 @@ pub record LetterAt (s : List ℕ) (at : ℕ) : Type 0 where
 
 pub letter_at : (s : List ℕ) (at : ℕ) → next (drop at s) ≡ Letter → LetterAt s at
 letter_at s at e =
-    let l = within s at (λ f. let z : ◌≡◌ {A = ℕ} 0 1 = cc in omega arith) in
+    let l = within s at (λ f. cc) in
     let t = told_at s at Letter l e in
     record {
       inside = l;
       same = ne_eqb _ 10 t.1;
       more = at_drop_more run s at 0 l ∙ cond-true _ _ _ t.0 ∙ sym (add-one (run (drop (at + 1) s)));
     }
-
-pub no_letter : (s : List ℕ) → (next s ≡ Letter → ⊥) → run s ≡ 0
-no_letter [] h = refl
-no_letter (b ∷ bs) h = go (word_byte b) refl
-  where
-    go : (w : Bool) → word_byte b ≡ w → run (b ∷ bs) ≡ 0
-    go true e = absurd (h (word_kind b e))
-    go false e = cond-false _ _ _ e
 
 pub not_end : (k : Kind) (b : ℕ) → Told k b → (k ≡ LineEnd → ⊥) → b ≡ 10 → ⊥
 not_end LineEnd b t h e = h refl

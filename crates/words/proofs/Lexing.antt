@@ -1,7 +1,7 @@
 -- The first token of some bytes.
-use Rattle.std.proofs.Common.{◌≡◌, ℕ, suc, ◌+◌, Bool, true, false, leb, ◌⊎◌, List, [], ◌∷◌, ◌++◌, length, sym, refl, ap, ◌∙◌, inl, inr, arith}
+use Rattle.std.proofs.Common.{◌≡◌, ℕ, ◌+◌, true, false, ◌⊎◌, List, [], ◌∷◌, ◌++◌, length, sym, refl, ap, ◌∙◌, inl, inr, arith}
 use Rattle.std.specs.List.{AllByRecursion}
-use Rattle.std.proofs.lemmas.Bool.{cond-true, cond-false, lt-leb, leb-false}
+use Rattle.std.proofs.lemmas.Bool.Decides.{nat_tests}
 use Rattle.words.specs.declared.bytes.Kind.{Kind}
 use Rattle.words.specs.declared.bytes.Kind.TheVariants.{LineEnd, Space, Semicolon, Other}
 use Rattle.words.specs.Bytes.{word_byte, next, begins}
@@ -13,11 +13,7 @@ lex_letter l c b bs h = ap (λ k. by_kind k l c b bs (lex l (c + 1) bs)) (word_k
 
 -- one byte before a word
 glue_capped : (l c d b : ℕ) (w : List ℕ) (ts : List Tok) → glued l c b (capped (length w) d (word l d w ∷ ts)) ≡ capped (length (b ∷ w)) c (word l c (b ∷ w) ∷ ts)
-glue_capped l c d b w ts = go (leb (length w) 16) refl
-  where
-    go : (t : Bool) → leb (length w) 16 ≡ t → glued l c b (capped (length w) d (word l d w ∷ ts)) ≡ capped (suc (length w)) c (word l c (b ∷ w) ∷ ts)
-    go true e = ap (glued l c b) (cond-true _ _ _ e)
-    go false e = ap (glued l c b) (cond-false _ _ _ e) ∙ sym (cond-false _ _ _ (lt-leb (suc (length w)) 16 (omega (arith, leb-false (length w) 16 e))))
+glue_capped l c d b w ts = grind (arith, nat_tests)
 
 pub lex_word : (l c b : ℕ) (w s : List ℕ) → AllByRecursion (λ x. word_byte x ≡ true) (b ∷ w) → begins s ≡ false → lex l c ((b ∷ w) ++ s) ≡ capped (length (b ∷ w)) c (word l c (b ∷ w) ∷ lex l (c + length (b ∷ w)) s)
 lex_word l c b [] s h e = lex_letter l c b s h.0 ∙ ap (λ t. joined l c b t (lex l (c + 1) s)) e
@@ -35,7 +31,7 @@ lex_end l c (b ∷ bs) e = ap (λ k. by_kind k l c b bs (lex l (c + 1) bs)) e
 
 pub lex_bad : (l c : ℕ) (s : List ℕ) (k : Kind) → (k ≡ Space → ⊥) → (k ≡ Space) ⊎ ((k ≡ Semicolon) ⊎ (k ≡ Other)) → k ≡ next s → lex l c s ≡ bad_byte c ∷ []
 lex_bad l c s k other (inl i) e = absurd (other i)
-lex_bad l c [] k other (inr (inl i)) e = let z : ◌≡◌ {A = ℕ} 0 1 = cc in absurd (omega arith)
-lex_bad l c [] k other (inr (inr i)) e = let z : ◌≡◌ {A = ℕ} 0 1 = cc in absurd (omega arith)
+lex_bad l c [] k other (inr (inl i)) e = cc
+lex_bad l c [] k other (inr (inr i)) e = cc
 lex_bad l c (b ∷ bs) k other (inr (inl i)) e = ap (λ j. by_kind j l c b bs (lex l (c + 1) bs)) (sym e ∙ i)
 lex_bad l c (b ∷ bs) k other (inr (inr i)) e = ap (λ j. by_kind j l c b bs (lex l (c + 1) bs)) (sym e ∙ i)

@@ -1,6 +1,7 @@
 -- The number that a word is, by the relation and by the function.
 use Rattle.std.proofs.Common.{◌≡◌, ℕ, ◌-◌, ◌≤◌, Bool, true, false, ◌&&◌, eqb, leb, List, [], ◌∷◌, length, get_or, ℤ, pos, neg_ℤ, Some, None, codes, Decides, Option, sym, refl, ap, ◌∙◌, subst, arith}
 use Rattle.std.specs.List.{AllByRecursion}
+use Rattle.std.specs.Option.{option_map}
 use Rattle.std.specs.Str.{bytes_eq}
 use Rattle.std.proofs.lemmas.Slice.Eq.{bytes_eq-Decides}
 use Rattle.std.proofs.lemmas.Bool.{cond-true, cond-false, eqb-true, eqb-false, leb-true, le-leb, both_ways}
@@ -8,7 +9,7 @@ use Rattle.std.proofs.lemmas.Bool.Decides.{Decides-and, not_from_Decides}
 use Rattle.std.proofs.ByRecursion.{Decides-by_and}
 use Rattle.words.specs.Answer.{Answers}
 use Rattle.words.specs.Number.{decimal, Digit, Numeral, numeral, Number, nought, plain, minus}
-use Rattle.words.specs.Numerals.{all_digits, read_numeral, signed, read_number}
+use Rattle.words.specs.Numerals.{all_digits, read_numeral, read_number}
 use Rattle.words.proofs.Numbers.{parts, after_minus, nought_is}
 
 -- two answers for one relation are the same
@@ -47,7 +48,7 @@ numeral_read (d ∷ ds) = go ((leb 49 d && leb d 57) && (all_digits ds && leb (l
         subst (λ o. Answers o (Numeral (d ∷ ds))) (sym (cond-false _ (Some (decimal (d - 48) ds)) None e))
         (λ n r. let p = parts r in not_from_Decides _ test e ((p.0, p.1), (p.2, p.3)))
 
-signed_minus : (ds : List ℕ) (o : Option ℕ) → Answers o (Numeral ds) → Answers (signed (λ n. neg_ℤ (pos n)) o) (Number (45 ∷ ds))
+signed_minus : (ds : List ℕ) (o : Option ℕ) → Answers o (Numeral ds) → Answers (option_map (λ n. neg_ℤ (pos n)) o) (Number (45 ∷ ds))
 signed_minus ds None a = λ x r. let p = after_minus r ds refl in a p.0 p.1
 signed_minus ds (Some n) a = (minus a.0, λ x r. let p = after_minus r ds refl in p.2 ∙ ap (λ m. neg_ℤ (pos m)) (a.1 p.0 p.1))
 
@@ -56,7 +57,7 @@ only_plain nought a b = absurd (b refl)
 only_plain (plain {n = n} r) a b = (n, r, refl)
 only_plain (minus r) a b = absurd (a refl)
 
-signed_plain : (w : List ℕ) (o : Option ℕ) → (get_or w 0 0 ≡ 45 → ⊥) → (w ≡ 48 ∷ [] → ⊥) → Answers o (Numeral w) → Answers (signed pos o) (Number w)
+signed_plain : (w : List ℕ) (o : Option ℕ) → (get_or w 0 0 ≡ 45 → ⊥) → (w ≡ 48 ∷ [] → ⊥) → Answers o (Numeral w) → Answers (option_map pos o) (Number w)
 signed_plain w None a b h = λ x r. let p = only_plain r a b in h p.0 p.1
 signed_plain w (Some n) a b h = (plain h.0, λ x r. let p = only_plain r a b in p.2 ∙ ap pos (h.1 p.0 p.1))
 
@@ -72,7 +73,7 @@ number_read (b ∷ ds) = go (eqb b 45) refl (bytes_eq (b ∷ ds) (codes "0")) re
     go : (s : Bool) → eqb b 45 ≡ s → (z : Bool) → bytes_eq (b ∷ ds) (codes "0") ≡ z → Answers (read_number (b ∷ ds)) (Number (b ∷ ds))
     go true e z f =
         subst (λ o. Answers o (Number (b ∷ ds))) (sym (cond-true _ _ _ e))
-        (subst (λ x. Answers (signed (λ n. neg_ℤ (pos n)) (read_numeral ds)) (Number (x ∷ ds))) (sym (eqb-true b 45 e)) (signed_minus ds (read_numeral ds) (numeral_read ds)))
+        (subst (λ x. Answers (option_map (λ n. neg_ℤ (pos n)) (read_numeral ds)) (Number (x ∷ ds))) (sym (eqb-true b 45 e)) (signed_minus ds (read_numeral ds) (numeral_read ds)))
     go false e true f =
         let w : b ∷ ds ≡ 48 ∷ [] = (bytes_eq-Decides (b ∷ ds) (codes "0")).0 f in
         subst (λ o. Answers o (Number (b ∷ ds))) (sym (cond-false _ _ _ e ∙ cond-true _ _ _ f)) (nought_is (b ∷ ds) (ap length w) (ap (λ l. get_or l 0 0) w))

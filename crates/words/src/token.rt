@@ -1,7 +1,7 @@
 // The tokens of a line.
 
 // A word as the part of the sheet that it is, with its line and column from 1.
-#[derive(Clone, Copy)]
+#[derive(Clone, Copy, PartialEq, Eq)]
 pub struct Word<'a> {
     pub bytes: &'a [u8],
     pub line: u32,
@@ -9,7 +9,7 @@ pub struct Word<'a> {
 }
 
 // What stands next on a line: a bracket or a word, or what ends its reading.
-#[derive(Clone, Copy)]
+#[derive(Clone, Copy, PartialEq, Eq)]
 pub enum Token<'a> {
     // a bracket at this column
     Open(u32),

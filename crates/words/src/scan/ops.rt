@@ -5,7 +5,7 @@ ghost use Rattle.words.specs.Bytes.{next, run, behind, Skips};
 ghost use Rattle.words.specs.Place.{line_at, column_at, Onto};
 ghost use Rattle.words.specs.View.{rest, tokens, words_in, Took, Cut, NextWord, CutWord};
 
-use super::Scanner;
+use super::{LONGEST, Scanner};
 use crate::bytes::{Kind, kind_of};
 use crate::token::{Token, Word};
 
@@ -17,20 +17,12 @@ fn is_long(word: Word) -> bool
 }
 
 impl<'a> Scanner<'a> {
-    // At the start of a sheet, of which 65,536 bytes are read.
+    // At the start of a sheet, of which the first LONGEST bytes are read.
     pub fn new(sheet: &'a [u8]) -> Self
-        ensures { (result.sheet.now ≡ take 65536 sheet.now) × (result.at ≡ 0) × (result.line ≡ 1) × (result.column ≡ 1) }
+        ensures { (result.sheet.now ≡ take LONGEST sheet.now) × (result.at ≡ 0) × (result.line ≡ 1) × (result.column ≡ 1) }
     {
-        if sheet.len() > 65536 {
-            return Scanner {
-                sheet: &sheet[0..65536],
-                at: 0,
-                line: 1,
-                column: 1,
-            };
-        }
         Scanner {
-            sheet,
+            sheet: &sheet[..LONGEST.min(sheet.len())],
             at: 0,
             line: 1,
             column: 1,
@@ -45,22 +37,13 @@ impl<'a> Scanner<'a> {
         ensures line { self.new.line ≡ (if nat_eq (slice_index self.old.sheet.now self.old.at) 10 then self.old.line + 1 else self.old.line) }
         ensures column { self.new.column ≡ (if nat_eq (slice_index self.old.sheet.now self.old.at) 10 then 1 else self.old.column + 1) }
     {
-        let at = self.at;
-        if self.sheet[at] == b'\n' {
-            *self = Scanner {
-                sheet: self.sheet,
-                at: at + 1,
-                line: self.line + 1,
-                column: 1,
-            };
+        if self.sheet[self.at] == b'\n' {
+            self.line += 1;
+            self.column = 1;
         } else {
-            *self = Scanner {
-                sheet: self.sheet,
-                at: at + 1,
-                line: self.line,
-                column: self.column + 1,
-            };
+            self.column += 1;
         }
+        self.at += 1;
     }
 
     // Whether no byte is left.
@@ -74,11 +57,9 @@ impl<'a> Scanner<'a> {
     fn peek(&self) -> Kind
         ensures { result ≡ next (rest self.now) }
     {
-        if self.at < self.sheet.len() {
-            kind_of(self.sheet[self.at])
-        } else {
-            Kind::LineEnd
-        }
+        self.sheet
+            .get(self.at)
+            .map_or(Kind::LineEnd, |b| kind_of(*b))
     }
 
     // The longest run of a word's bytes from here.
@@ -92,17 +73,14 @@ impl<'a> Scanner<'a> {
         ensures place { (result.line ≡ line_at self.old.sheet.now self.old.at) × (result.column ≡ column_at self.old.sheet.now self.old.at) }
         ensures here { (result.line ≡ self.old.line) × (result.column ≡ self.old.column) }
     {
-        let sheet = self.sheet;
-        let start = self.at;
-        let line = self.line;
-        let column = self.column;
-        while let Kind::Letter = self.peek() {
+        let start = *self;
+        while self.peek() == Kind::Letter {
             self.step();
         }
         Word {
-            bytes: &sheet[start..self.at],
-            line,
-            column,
+            bytes: &start.sheet[start.at..self.at],
+            line: start.line,
+            column: start.column,
         }
     }
 
@@ -114,12 +92,10 @@ impl<'a> Scanner<'a> {
         ensures next { result ≡ next (rest self.new) }
         ensures other { result ≢ Space }
     {
-        loop {
-            match self.peek() {
-                Kind::Space => self.step(),
-                kind => return kind,
-            }
+        while self.peek() == Kind::Space {
+            self.step();
         }
+        self.peek()
     }
 
     // The next token of the line. Where the reading of the line ends with it, the scanner stays before it.
@@ -128,15 +104,15 @@ impl<'a> Scanner<'a> {
         ensures read { Took result (tokens self.old) (tokens self.new) }
         ensures part { Cut self.old.sheet.now result }
     {
-        match self.spaces() {
-            Kind::LineEnd => Token::End(self.column),
+        let next = self.spaces();
+        let column = self.column;
+        match next {
+            Kind::LineEnd => Token::End(column),
             Kind::Open => {
-                let column = self.column;
                 self.step();
                 Token::Open(column)
             }
             Kind::Close => {
-                let column = self.column;
                 self.step();
                 Token::Close(column)
             }
@@ -145,12 +121,12 @@ impl<'a> Scanner<'a> {
                 let word = self.word();
                 if is_long(word) {
                     *self = start;
-                    Token::LongWord(word.column)
+                    Token::LongWord(column)
                 } else {
                     Token::Word(word)
                 }
             }
-            Kind::Space | Kind::Semicolon | Kind::Other => Token::BadByte(self.column),
+            Kind::Space | Kind::Semicolon | Kind::Other => Token::BadByte(column),
         }
     }
 
@@ -173,8 +149,7 @@ impl<'a> Scanner<'a> {
     pub fn line_number(&self) -> u32
         ensures { result ≡ self.now.line }
     {
-        let Scanner { line, .. } = *self;
-        line
+        self.line
     }
 
     // Moves to the start of the next line, or to the end of the sheet where there is none.
@@ -182,11 +157,8 @@ impl<'a> Scanner<'a> {
         ensures { (self.new.sheet.now ≡ self.old.sheet.now)
             × Onto result (behind (rest self.old)) (rest self.new) self.old.line self.new.line self.new.column }
     {
-        loop {
-            match self.peek() {
-                Kind::LineEnd => break,
-                _ => self.step(),
-            }
+        while self.peek() != Kind::LineEnd {
+            self.step();
         }
         if self.at_end() {
             return false;
