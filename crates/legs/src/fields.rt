@@ -33,7 +33,9 @@ pub(crate) fn quote_ok(count: usize, leg: i64, price: i64, sizes: &[i64]) -> boo
     requires { count ≤ most_legs }
     ensures { result ≡ quote_ok count leg price sizes.now }
 {
-    (1..=count as i64).contains(&leg) && (1..=HIGHEST_QUOTE).contains(&price) && sizes_ok(sizes)
+    let has_leg = (1..=count as i64).contains(&leg);
+    let has_price = (1..=HIGHEST_QUOTE).contains(&price);
+    has_leg && has_price && sizes_ok(sizes)
 }
 
 // Sides and ratios of the legs of a net.
