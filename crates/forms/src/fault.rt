@@ -26,7 +26,7 @@ pub enum Fault {
 }
 
 impl Fault {
-    // The number of the refusal.
+    // The number of the refusal. By hand: a variant with fields can't be cast to a number.
     pub fn number(&self) -> u32
         ensures { result ≡ number_of self.now }
     {

@@ -1,7 +1,7 @@
 // The plain spelling of forms: one space between words and lists, none beside a bracket within.
 ghost use Rattle.std.specs.Prelude.{Some};
 ghost use Rattle.forms.specs.Shapes.{shape};
-ghost use Rattle.forms.specs.Spelled.{spaced_text, numbers_text, response_text, terms_text, spelling};
+ghost use Rattle.forms.specs.Spelled.{spaced_text, numbers_text, response_text, spelling};
 
 use crate::form::{Form, Market, Response};
 use market::resting::Resting;
@@ -58,23 +58,6 @@ impl fmt::Display for Response {
     }
 }
 
-// The lists at the end of an enter form.
-#[derive(Clone, Copy)]
-struct Terms {
-    reserve: i64,
-    time: i64,
-    at: i64,
-}
-
-impl fmt::Display for Terms {
-    ghost output = { λ x. Some (terms_text x.reserve x.time x.at) };
-
-    fn fmt<W: fmt::Write>(&self, f: &mut fmt::Formatter<W>) -> fmt::Result {
-        let Terms { reserve, time, at } = self;
-        write!(f, "(reserve {reserve}) (time {time}) (at {at})")
-    }
-}
-
 impl fmt::Display for Form {
     ghost output = { λ x. Some (spelling (shape x)) };
 
@@ -118,14 +101,10 @@ impl fmt::Display for Form {
                 reserve,
                 time,
                 at,
-            } => {
-                let terms = Terms {
-                    reserve: *reserve,
-                    time: *time,
-                    at: *at,
-                };
-                write!(f, "(enter {mechanism} {side} {size} {price} {terms})")
-            }
+            } => write!(
+                f,
+                "(enter {mechanism} {side} {size} {price} (reserve {reserve}) (time {time}) (at {at}))"
+            ),
             Form::Respond(response) => write!(f, "(respond {response})"),
             Form::Amend(response) => write!(f, "(amend {response})"),
             Form::Delete { member, slot, at } => write!(f, "(delete {member} {slot} (at {at}))"),
