@@ -32,7 +32,7 @@ abbrev pub shape : Form → Shape
 shape (House n Series) = series n
 shape (House n (Net legs)) = net n (vec_items legs)
 shape (Quote l e p sizes) = quote l e p (vec_items sizes)
-shape (Rest n s p q k) = rest n s p q k
+shape (Rest o) = rest o.number o.side o.price o.size o.class
 shape (Away s p) = away s p
 shape (Enter m s z p r t a) = enter m s z p r t a
 shape (Respond r) = respond r

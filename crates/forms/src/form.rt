@@ -3,6 +3,7 @@ ghost use Rattle.std.specs.Prelude.{◌≡◌};
 ghost use Rattle.forms.specs.Shapes.{shape, is_house};
 
 use market::names::{Class, Edge, Leg, Mechanism, Side};
+use market::resting::Resting;
 
 // What a house trades: one series, or a net of legs.
 #[derive(Drop)]
@@ -34,13 +35,7 @@ pub enum Form {
         price: i64,
         sizes: Vec<i64>,
     },
-    Rest {
-        number: i64,
-        side: Side,
-        price: i64,
-        size: i64,
-        class: Class,
-    },
+    Rest(Resting),
     Away {
         side: Side,
         price: i64,

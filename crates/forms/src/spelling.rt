@@ -5,6 +5,7 @@ ghost use Rattle.forms.specs.Spelled.{legs_text, numbers_text, response_text, te
 
 use crate::form::{Form, Market, Response};
 use market::names::Leg;
+use market::resting::Resting;
 use std::fmt;
 
 // Each leg behind a space.
@@ -103,13 +104,15 @@ impl fmt::Display for Form {
                 };
                 write!(f, "(quote {leg} {edge} {price} ({sizes}))")
             }
-            Form::Rest {
-                number,
-                side,
-                price,
-                size,
-                class,
-            } => write!(f, "(rest {number} {side} {price} {size} {class})"),
+            Form::Rest(
+                Resting {
+                    number,
+                    side,
+                    price,
+                    size,
+                    class,
+                },
+            ) => write!(f, "(rest {number} {side} {price} {size} {class})"),
             Form::Away { side, price } => write!(f, "(away {side} {price})"),
             Form::Enter {
                 mechanism,
