@@ -4,9 +4,11 @@ ghost use Rattle.forms.specs.Shapes.{shape};
 ghost use Rattle.parse.specs.View.{tokens, begun};
 
 use super::Reader;
-use crate::names::{Begun, Kind, Name};
+use crate::names::{Begun, Name};
 use forms::form::{Form, Market, Response};
 use forms::trouble::{Expected, Trouble};
+use market::names::Kind;
+use market::resting::Resting;
 
 impl<'a> Reader<'a> {
     // A form whose closing bracket comes next.
@@ -20,8 +22,8 @@ impl<'a> Reader<'a> {
     fn house(&mut self) -> Result<Begun, Trouble>
         ensures { Gave (seen begun result) (house_of (tokens self.old)) (tokens self.new) }
     {
-        let number = self.number()?;
-        match self.kind()? {
+        let number = self.value()?;
+        match self.value::<Kind>()? {
             Kind::Series => {
                 let market = Market::Series;
                 self.closed(Form::House { number, market })
@@ -33,45 +35,41 @@ impl<'a> Reader<'a> {
     fn quote(&mut self) -> Result<Begun, Trouble>
         ensures { Gave (seen begun result) (quote_of (tokens self.old)) (tokens self.new) }
     {
-        let leg = self.number()?;
-        let edge = self.edge()?;
-        let price = self.number()?;
+        let leg = self.value()?;
+        let edge = self.value()?;
+        let price = self.value()?;
         self.open(Expected::Opening)?;
-        Ok(Begun::Quote(leg, edge, price))
+        Ok(Begun::Quote { leg, edge, price })
     }
 
     fn rest(&mut self) -> Result<Begun, Trouble>
         ensures { Gave (seen begun result) (rest_of (tokens self.old)) (tokens self.new) }
     {
-        let number = self.number()?;
-        let side = self.side()?;
-        let price = self.number()?;
-        let size = self.number()?;
-        let class = self.class()?;
-        self.closed(Form::Rest {
-            number,
-            side,
-            price,
-            size,
-            class,
-        })
+        let order = Resting {
+            number: self.value()?,
+            side: self.value()?,
+            price: self.value()?,
+            size: self.value()?,
+            class: self.value()?,
+        };
+        self.closed(Form::Rest(order))
     }
 
     fn away(&mut self) -> Result<Begun, Trouble>
         ensures { Gave (seen begun result) (away_of (tokens self.old)) (tokens self.new) }
     {
-        let side = self.side()?;
-        let price = self.number()?;
+        let side = self.value()?;
+        let price = self.value()?;
         self.closed(Form::Away { side, price })
     }
 
     fn enter(&mut self) -> Result<Begun, Trouble>
         ensures { Gave (seen begun result) (enter_of (tokens self.old)) (tokens self.new) }
     {
-        let mechanism = self.mechanism()?;
-        let side = self.side()?;
-        let size = self.number()?;
-        let price = self.number()?;
+        let mechanism = self.value()?;
+        let side = self.value()?;
+        let size = self.value()?;
+        let price = self.value()?;
         let reserve = self.keyed(b"reserve", Expected::Reserve)?;
         let time = self.keyed(b"time", Expected::Time)?;
         let at = self.moment()?;
@@ -89,19 +87,13 @@ impl<'a> Reader<'a> {
     fn response(&mut self) -> Result<Response, Trouble>
         ensures { Gave result (response_of (tokens self.old)) (tokens self.new) }
     {
-        let member = self.number()?;
-        let slot = self.number()?;
-        let price = self.number()?;
-        let size = self.number()?;
-        let class = self.class()?;
-        let at = self.moment()?;
         Ok(Response {
-            member,
-            slot,
-            price,
-            size,
-            class,
-            at,
+            member: self.value()?,
+            slot: self.value()?,
+            price: self.value()?,
+            size: self.value()?,
+            class: self.value()?,
+            at: self.moment()?,
         })
     }
 
@@ -122,8 +114,8 @@ impl<'a> Reader<'a> {
     fn delete(&mut self) -> Result<Begun, Trouble>
         ensures { Gave (seen begun result) (delete_of (tokens self.old)) (tokens self.new) }
     {
-        let member = self.number()?;
-        let slot = self.number()?;
+        let member = self.value()?;
+        let slot = self.value()?;
         let at = self.moment()?;
         self.closed(Form::Delete { member, slot, at })
     }
@@ -164,7 +156,7 @@ impl<'a> Reader<'a> {
         ensures { Gave (seen begun result) (begin_of (tokens self.old)) (tokens self.new) }
     {
         self.open(Expected::Form)?;
-        let name = self.name()?;
+        let name = self.value()?;
         self.body(name)
     }
 }

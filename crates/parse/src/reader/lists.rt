@@ -8,7 +8,7 @@ ghost use Rattle.std.proofs.Common.{rules};
 
 use super::Reader;
 use super::fields::known;
-use crate::names::{Begun, number_of};
+use crate::names::{Begun, Named};
 use crate::trouble::{FormError, unexpected};
 use forms::form::{Form, Market};
 use forms::trouble::{Expected, Trouble};
@@ -37,7 +37,7 @@ impl Item for i64 {
         match reader.scan.token() {
             Token::Close(_) => Ok(None),
             Token::Word(word) => {
-                let size = known(number_of(word.bytes), word, Expected::Size)?;
+                let size = known(i64::of_word(word.bytes), word, Expected::Size)?;
                 Ok(Some(size))
             }
             other => Err(unexpected(other, Expected::Size)),
@@ -64,8 +64,8 @@ impl<'a> Reader<'a> {
     fn leg(&mut self) -> Result<Option<Leg>, Trouble>
         ensures { Gave result (leg_of (tokens self.old)) (tokens self.new) }
     {
-        let side = self.side()?;
-        let ratio = self.number()?;
+        let side = self.value()?;
+        let ratio = self.value()?;
         self.close()?;
         Ok(Some(Leg { side, ratio }))
     }
@@ -99,7 +99,7 @@ impl<'a> Reader<'a> {
                 let market = Market::Net(self.list(heap)?);
                 Ok(Form::House { number, market })
             }
-            Begun::Quote(leg, edge, price) => {
+            Begun::Quote { leg, edge, price } => {
                 let sizes = self.list(heap)?;
                 self.close()?;
                 Ok(Form::Quote {
@@ -122,7 +122,7 @@ impl<'a> Reader<'a> {
                 self.skip::<Leg>()?;
                 Ok(true)
             }
-            Begun::Quote(_, _, _) => {
+            Begun::Quote { .. } => {
                 self.skip::<i64>()?;
                 self.close()?;
                 Ok(false)

@@ -16,4 +16,4 @@ returns-in_err-skip-in-Quote c =
     let p = err_from_is_err_and c.from_residual-in_err-skip-in-Quote.result c.from_residual-in_err-skip-in-Quote.ensures.1 in
     let us = tokens c.begin.new.self in
     let begins = c.in_ok-form.ensures ∙ ap (λ b. Ok (begun b, us)) c.in-Quote.is in
-    rw (p.1, p.2) (ap is_house_of (sizes_trouble (tokens c.args.self.now) us c.in-Quote.field-0 c.in-Quote.field-1 c.in-Quote.field-2 _ begins c.in_err-skip-in-Quote.ensures))
+    rw (p.1, p.2) (ap is_house_of (sizes_trouble (tokens c.args.self.now) us c.in-Quote.leg c.in-Quote.edge c.in-Quote.price _ begins c.in_err-skip-in-Quote.ensures))
