@@ -1,5 +1,6 @@
 -- A list, item by item.
-use Rattle.std.proofs.Common.{◌≡◌, ℕ, zero, suc, ◌<◌, List, [], ◌∷◌, ◌++◌, length, ℤ, Some, None, Ok, Err, Option, refl, ap, ◌∙◌, append_assoc, arith}
+use Rattle.std.proofs.Common.{◌≡◌, ℕ, zero, suc, ◌<◌, List, [], ◌∷◌, ◌++◌, length, true, ℤ, Some, None, Ok, Err, Option, sym, refl, ap, ◌∙◌, append_assoc, arith}
+use Rattle.std.specs.Option.{is_some}
 use Rattle.words.specs.Tokens.{Tok}
 use Rattle.market.specs.declared.names.Edge.{Edge}
 use Rattle.forms.specs.declared.trouble.Trouble.{Trouble}
@@ -45,9 +46,14 @@ items_all next ts us e = ap (λ r. then r (λ o vs. more o vs (up_to next (lengt
 pub items_trouble : {A : Type 0} (next : List Tok → Read (Option A)) (ts : List Tok) (t : Trouble) → next ts ≡ Err t → items_of next ts ≡ Err t
 items_trouble next ts t e = ap (λ r. then r (λ o vs. more o vs (up_to next (length ts)))) e
 
+-- an item that is passed over
+pub passed : {A : Type 0} (next : List Tok → Read (Option A)) → Takes next → (ts us : List Tok) (o : Option A) → next ts ≡ Ok (o, us) → true ≡ is_some o → asked (items_of next us) ≡ asked (items_of next ts)
+passed next takes ts us None e h = cc
+passed next takes ts us (Some x) e h = sym (ap asked (items_more next takes ts us x e) ∙ asked_onto (x ∷ []) (items_of next us))
+
 asked_trouble : {A : Type 0} (r : Read A) (t : Trouble) → asked r ≡ Err t → r ≡ Err t
 asked_trouble (Err u) t e = cc
-asked_trouble (Ok x) t e = let z : ◌≡◌ {A = ℕ} 0 1 = cc in absurd (omega arith)
+asked_trouble (Ok x) t e = absurd (cc)
 
 -- trouble in the list of legs, or of sizes
 pub legs_trouble : (ts us : List Tok) (n : ℤ) (t : Trouble) → begin_of ts ≡ Ok (legs_of n, us) → asked (items_of next_leg_of us) ≡ Err t → form_of ts ≡ Err t

@@ -1,5 +1,5 @@
 // What stands behind the name of a form.
-ghost use Rattle.parse.specs.Parser.{Gave, seen, house_of, quote_of, rest_of, away_of, enter_of, response_of, respond_of, amend_of, delete_of, settle_of, halt_of, body_of, begin_of, closed};
+ghost use Rattle.parse.specs.Parser.{Gave, seen, house_of, quote_of, rest_of, away_of, enter_of, response_of, delete_of, body_of, begin_of, closed};
 ghost use Rattle.forms.specs.Shapes.{shape};
 ghost use Rattle.parse.specs.View.{tokens, begun};
 
@@ -24,10 +24,10 @@ impl<'a> Reader<'a> {
     {
         let number = self.value()?;
         match self.value::<Kind>()? {
-            Kind::Series => {
-                let market = Market::Series;
-                self.closed(Form::House { number, market })
-            }
+            Kind::Series => self.closed(Form::House {
+                number,
+                market: Market::Series,
+            }),
             Kind::Net => Ok(Begun::Net(number)),
         }
     }
@@ -58,30 +58,26 @@ impl<'a> Reader<'a> {
     fn away(&mut self) -> Result<Begun, Trouble>
         ensures { Gave (seen begun result) (away_of (tokens self.old)) (tokens self.new) }
     {
-        let side = self.value()?;
-        let price = self.value()?;
-        self.closed(Form::Away { side, price })
+        let form = Form::Away {
+            side: self.value()?,
+            price: self.value()?,
+        };
+        self.closed(form)
     }
 
     fn enter(&mut self) -> Result<Begun, Trouble>
         ensures { Gave (seen begun result) (enter_of (tokens self.old)) (tokens self.new) }
     {
-        let mechanism = self.value()?;
-        let side = self.value()?;
-        let size = self.value()?;
-        let price = self.value()?;
-        let reserve = self.keyed(b"reserve", Expected::Reserve)?;
-        let time = self.keyed(b"time", Expected::Time)?;
-        let at = self.moment()?;
-        self.closed(Form::Enter {
-            mechanism,
-            side,
-            size,
-            price,
-            reserve,
-            time,
-            at,
-        })
+        let form = Form::Enter {
+            mechanism: self.value()?,
+            side: self.value()?,
+            size: self.value()?,
+            price: self.value()?,
+            reserve: self.keyed(b"reserve", Expected::Reserve)?,
+            time: self.keyed(b"time", Expected::Time)?,
+            at: self.moment()?,
+        };
+        self.closed(form)
     }
 
     fn response(&mut self) -> Result<Response, Trouble>
@@ -97,41 +93,15 @@ impl<'a> Reader<'a> {
         })
     }
 
-    fn respond(&mut self) -> Result<Begun, Trouble>
-        ensures { Gave (seen begun result) (respond_of (tokens self.old)) (tokens self.new) }
-    {
-        let response = self.response()?;
-        self.closed(Form::Respond(response))
-    }
-
-    fn amend(&mut self) -> Result<Begun, Trouble>
-        ensures { Gave (seen begun result) (amend_of (tokens self.old)) (tokens self.new) }
-    {
-        let response = self.response()?;
-        self.closed(Form::Amend(response))
-    }
-
     fn delete(&mut self) -> Result<Begun, Trouble>
         ensures { Gave (seen begun result) (delete_of (tokens self.old)) (tokens self.new) }
     {
-        let member = self.value()?;
-        let slot = self.value()?;
-        let at = self.moment()?;
-        self.closed(Form::Delete { member, slot, at })
-    }
-
-    fn settle(&mut self) -> Result<Begun, Trouble>
-        ensures { Gave (seen begun result) (settle_of (tokens self.old)) (tokens self.new) }
-    {
-        let at = self.moment()?;
-        self.closed(Form::Settle { at })
-    }
-
-    fn halt(&mut self) -> Result<Begun, Trouble>
-        ensures { Gave (seen begun result) (halt_of (tokens self.old)) (tokens self.new) }
-    {
-        let at = self.moment()?;
-        self.closed(Form::Halt { at })
+        let form = Form::Delete {
+            member: self.value()?,
+            slot: self.value()?,
+            at: self.moment()?,
+        };
+        self.closed(form)
     }
 
     fn body(&mut self, name: Name) -> Result<Begun, Trouble>
@@ -143,11 +113,23 @@ impl<'a> Reader<'a> {
             Name::Rest => self.rest(),
             Name::Away => self.away(),
             Name::Enter => self.enter(),
-            Name::Respond => self.respond(),
-            Name::Amend => self.amend(),
+            Name::Respond => {
+                let response = self.response()?;
+                self.closed(Form::Respond(response))
+            }
+            Name::Amend => {
+                let response = self.response()?;
+                self.closed(Form::Amend(response))
+            }
             Name::Delete => self.delete(),
-            Name::Settle => self.settle(),
-            Name::Halt => self.halt(),
+            Name::Settle => {
+                let at = self.moment()?;
+                self.closed(Form::Settle { at })
+            }
+            Name::Halt => {
+                let at = self.moment()?;
+                self.closed(Form::Halt { at })
+            }
         }
     }
 

@@ -1,8 +1,7 @@
 // The words and brackets of a form.
 ghost use Rattle.std.specs.Prelude.{◌≡◌};
 ghost use Rattle.words.specs.View.{placed};
-ghost use Rattle.parse.specs.Parser.{Gave, seen, known, word_in, word_of, open_of, close_of, end_of, value_of, key_of, keyed_of, moment_of};
-ghost use Rattle.parse.specs.Troubles.{mark};
+ghost use Rattle.parse.specs.Parser.{Gave, seen, known, word_of, open_of, close_of, end_of, value_of, key_of, keyed_of, moment_of};
 ghost use Rattle.parse.specs.View.{tokens};
 
 use super::Reader;
@@ -22,22 +21,14 @@ pub(crate) fn known<T>(value: Option<T>, word: Word, expected: Expected) -> Resu
     })
 }
 
-// The word that a token is.
-fn word_in(token: Token<'_>, expected: Expected) -> Result<Word<'_>, Trouble>
-    ensures { seen placed result ≡ word_in expected (mark token.entry) }
-{
-    match token {
-        Token::Word(word) => Ok(word),
-        other => Err(unexpected(other, expected)),
-    }
-}
-
 impl<'a> Reader<'a> {
     fn word(&mut self, expected: Expected) -> Result<Word<'a>, Trouble>
         ensures { Gave (seen placed result) (word_of expected (tokens self.old)) (tokens self.new) }
     {
-        let token = self.scan.token();
-        word_in(token, expected)
+        match self.scan.token() {
+            Token::Word(word) => Ok(word),
+            other => Err(unexpected(other, expected)),
+        }
     }
 
     pub(crate) fn open(&mut self, expected: Expected) -> Result<(), Trouble>

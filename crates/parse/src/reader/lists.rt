@@ -1,7 +1,7 @@
 // The lists of a form, and whole forms.
 ghost use Rattle.std.specs.Prelude.{◌≡◌, ◌<◌, List, length, Some, Ok, vec_items, Option};
 ghost use Rattle.words.specs.Tokens.{Tok};
-ghost use Rattle.parse.specs.Parser.{Read, Gave, size_of, leg_of, next_leg_of, items_of, form_of};
+ghost use Rattle.parse.specs.Parser.{Read, Gave, seen, size_of, leg_of, next_leg_of, items_of, form_of};
 ghost use Rattle.forms.specs.Shapes.{shape};
 ghost use Rattle.parse.specs.View.{tokens, Built, asked, is_house_of};
 ghost use Rattle.std.proofs.Common.{rules};
@@ -36,10 +36,7 @@ impl Item for i64 {
     fn next(reader: &mut Reader<'_>) -> Result<Option<i64>, Trouble> {
         match reader.scan.token() {
             Token::Close(_) => Ok(None),
-            Token::Word(word) => {
-                let size = known(i64::of_word(word.bytes), word, Expected::Size)?;
-                Ok(Some(size))
-            }
+            Token::Word(word) => known(i64::of_word(word.bytes), word, Expected::Size).map(Some),
             other => Err(unexpected(other, Expected::Size)),
         }
     }
@@ -53,7 +50,7 @@ impl Item for Leg {
     fn next(reader: &mut Reader<'_>) -> Result<Option<Leg>, Trouble> {
         match reader.scan.token() {
             Token::Close(_) => Ok(None),
-            Token::Open(_) => reader.leg(),
+            Token::Open(_) => Ok(Some(reader.leg()?)),
             other => Err(unexpected(other, Expected::Leg)),
         }
     }
@@ -61,20 +58,22 @@ impl Item for Leg {
 
 impl<'a> Reader<'a> {
     // A leg behind its opening bracket.
-    fn leg(&mut self) -> Result<Option<Leg>, Trouble>
-        ensures { Gave result (leg_of (tokens self.old)) (tokens self.new) }
+    fn leg(&mut self) -> Result<Leg, Trouble>
+        ensures { Gave (seen Some result) (leg_of (tokens self.old)) (tokens self.new) }
     {
-        let side = self.value()?;
-        let ratio = self.value()?;
+        let leg = Leg {
+            side: self.value()?,
+            ratio: self.value()?,
+        };
         self.close()?;
-        Ok(Some(Leg { side, ratio }))
+        Ok(leg)
     }
 
     // The items up to a closing bracket, which are passed over.
     fn skip<T: Item + Drop>(&mut self) -> Result<(), Trouble>
         ensures { Gave result (asked (items_of T.Item.reads (tokens self.old))) (tokens self.new) }
     {
-        while let Some(_) = T::next(self)? {}
+        while T::next(self)?.is_some() {}
         Ok(())
     }
 
