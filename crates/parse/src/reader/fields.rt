@@ -22,6 +22,7 @@ pub(crate) fn known<T>(value: Option<T>, word: Word, expected: Expected) -> Resu
 }
 
 impl<'a> Reader<'a> {
+    // By hand, here and in the three below: each match names its token in one line, and a test passed in would be no shorter.
     fn word(&mut self, expected: Expected) -> Result<Word<'a>, Trouble>
         ensures { Gave (seen placed result) (word_of expected (tokens self.old)) (tokens self.new) }
     {

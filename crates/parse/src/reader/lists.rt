@@ -69,7 +69,7 @@ impl<'a> Reader<'a> {
         Ok(leg)
     }
 
-    // The items up to a closing bracket, which are passed over.
+    // The items up to a closing bracket, which are passed over. By hand, beside `list`: one line, and it needs no memory.
     fn skip<T: Item + Drop>(&mut self) -> Result<(), Trouble>
         ensures { Gave result (asked (items_of T.Item.reads (tokens self.old))) (tokens self.new) }
     {
@@ -112,6 +112,7 @@ impl<'a> Reader<'a> {
     }
 
     // Passes over the next form of the line, and tells whether it is a house form.
+    // By hand, beside `form`: it needs no memory, and a trait for what is kept would be longer than both.
     pub fn check_form(&mut self) -> Result<bool, Trouble>
         ensures { Gave result (is_house_of (form_of (tokens self.old))) (tokens self.new) }
     {
