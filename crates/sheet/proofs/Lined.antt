@@ -10,8 +10,8 @@ use Rattle.forms.specs.declared.trouble.Trouble.{Trouble}
 use Rattle.forms.specs.Shapes.{Shape, shape, is_house}
 use Rattle.parse.specs.declared.reader.Reader.{Reader}
 use Rattle.parse.specs.Parser.{Read, then, form_of, end_of}
-use Rattle.parse.specs.declared.trouble.FormError.{FormError}
-use Rattle.parse.specs.declared.trouble.FormError.TheVariants as form
+use Rattle.parse.specs.declared.trouble.Failed.{Failed}
+use Rattle.parse.specs.declared.trouble.Failed.TheVariants as failed
 use Rattle.parse.specs.View.{tokens, is_house_of, Built}
 use Rattle.grammar.specs.Grammar.{Said, blank, states}
 use Rattle.grammar.specs.Reading.{formed, start, line_of}
@@ -95,6 +95,6 @@ pub house_ok : (r : Read Shape) (h : Bool) (us : List Tok) → is_house_of r ≡
 house_ok (Err u) h us e = let z : ◌≡◌ {A = ℕ} 0 1 = cc in absurd (omega arith)
 house_ok (Ok (f, vs)) h us e = let p = ok_same _ _ e in (f, λ j. Ok (f, (p j).1), λ j. (p j).0)
 
-pub read_trouble : (o q : Reader) (l : ℕ) (ts left : List Tok) (e : FormError) → line_here o ≡ formed l ts → Built shape (Err e) (form_of ts) left → LineRead (Err e) o q
-read_trouble o q l ts left (form.Trouble t) is b = is ∙ form_trouble l ts t b
-read_trouble o q l ts left form.Memory is b = tt
+pub read_trouble : (o q : Reader) (l : ℕ) (ts left : List Tok) (e : Failed Trouble) → line_here o ≡ formed l ts → Built shape (Err e) (form_of ts) left → LineRead (Err e) o q
+read_trouble o q l ts left (failed.Fault t) is b = is ∙ form_trouble l ts t b
+read_trouble o q l ts left failed.Memory is b = tt

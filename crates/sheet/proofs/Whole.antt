@@ -22,8 +22,8 @@ use Rattle.grammar.proofs.Fields.{ok_same}
 use Rattle.grammar.proofs.Parts.{reads_parts}
 use Rattle.grammar.proofs.Sheets.{ok_or_err, whole, read_sound, read_complete, fault_sound, fault_complete}
 use Rattle.sheet.specs.declared.located.Located.{Located}
-use Rattle.sheet.specs.declared.located.ReadError.{ReadError}
-use Rattle.sheet.specs.declared.located.ReadError.TheVariants as error
+use Rattle.parse.specs.declared.trouble.Failed.{Failed}
+use Rattle.parse.specs.declared.trouble.Failed.TheVariants as failed
 use Rattle.sheet.specs.Lines.{located, line_here, found, Following, SameLine, LineJudged, LineNoted}
 use Rattle.sheet.specs.Promises.{Accepted, Refused, Exactly, Verdict, ReadOnce, ReadAs}
 
@@ -173,7 +173,7 @@ noting_first s r xs e short sheet at line column = record {
 pub judging_fault : (s : List ℕ) (o q : Reader) (b : Bool) (f : Fault) → Judging s o b → LineJudged (Err f) b o q → Err f ≡ verdict_of s
 judging_fault s o q b f h w = ap accepted (sym (turn o b (later (rest o.scan)) h.column ∙ w (λ c. read_lines (o.scan.line + 1) c (later (rest o.scan))))) ∙ h.left
 
-pub noting_fault : (s : List ℕ) (o q : Reader) (xs ys : List Located) (f : Fault) → Noting s o xs → LineNoted (Err (error.Fault f)) xs ys o q → read_of s ≡ Err f
+pub noting_fault : (s : List ℕ) (o q : Reader) (xs ys : List Located) (f : Fault) → Noting s o xs → LineNoted (Err (failed.Fault f)) xs ys o q → read_of s ≡ Err f
 noting_fault s o q xs ys f h w = sym h.left ∙ ap (found xs) (turn o (some xs) (later (rest o.scan)) h.column ∙ w (λ c. read_lines (o.scan.line + 1) c (later (rest o.scan))))
 
 -- a line without one
@@ -206,15 +206,15 @@ pub next_shorter : (o q : Reader) (t : List ℕ) → SameLine o q → behind (re
 next_shorter o q t w n = shorter (rest o.scan) t (sym w.tail ∙ n)
 
 -- what reading answers
-pub read_fault : (s : List ℕ) (f : Fault) → read_of s ≡ Err f → ReadAs s (Err (error.Fault f))
+pub read_fault : (s : List ℕ) (f : Fault) → read_of s ≡ Err f → ReadAs s (Err (failed.Fault f))
 read_fault s f e = (e, refused_is s f e)
 
 pub read_forms : (s : List ℕ) (fs : List grammar.Located) → read_of s ≡ Ok fs → ReadOnce s fs
 read_forms s fs e = let r = read_sound s fs e in record { answer = e; derived = r; only = reads_once s fs e; fair = (accepted_is s fs e).fair; parts = reads_parts s fs r }
 
-pub noting_stop : (s : List ℕ) (o q : Reader) (xs ys : List Located) (e : ReadError) → Noting s o xs → LineNoted (Err e) xs ys o q → ReadAs s (Err e)
-noting_stop s o q xs ys (error.Fault f) h w = read_fault s f (noting_fault s o q xs ys f h w)
-noting_stop s o q xs ys error.Memory h w = tt
+pub noting_stop : (s : List ℕ) (o q : Reader) (xs ys : List Located) (e : Failed Fault) → Noting s o xs → LineNoted (Err e) xs ys o q → ReadAs s (Err e)
+noting_stop s o q xs ys (failed.Fault f) h w = read_fault s f (noting_fault s o q xs ys f h w)
+noting_stop s o q xs ys failed.Memory h w = tt
 
 -- no form, or these
 pub noting_none : (s : List ℕ) (n : ℕ) (xs : List Located) → some xs ≡ false → found xs (read_lines n (some xs) []) ≡ read_of s → read_of s ≡ Err (faults.House 1 strays.Missing)

@@ -9,8 +9,8 @@ use Rattle.forms.specs.declared.fault.Fault.TheVariants as faults
 use Rattle.forms.specs.declared.trouble.Trouble.{Trouble}
 use Rattle.forms.specs.Shapes.{shape, is_house}
 use Rattle.parse.specs.declared.reader.Reader.{Reader}
-use Rattle.parse.specs.declared.trouble.FormError.{FormError}
-use Rattle.parse.specs.declared.trouble.FormError.TheVariants as form
+use Rattle.parse.specs.declared.trouble.Failed.{Failed}
+use Rattle.parse.specs.declared.trouble.Failed.TheVariants as failed
 use Rattle.parse.specs.Parser.{seen}
 use Rattle.parse.specs.View.{tokens}
 use Rattle.grammar.specs.Grammar as grammar
@@ -19,8 +19,6 @@ use Rattle.grammar.specs.Reading.{line_of, on_line, accepted}
 use Rattle.grammar.specs.Reading as reading
 use Rattle.grammar.specs.Sheets.{some}
 use Rattle.sheet.specs.declared.located.Located.{Located}
-use Rattle.sheet.specs.declared.located.ReadError.{ReadError}
-use Rattle.sheet.specs.declared.located.ReadError.TheVariants as error
 
 -- a form where it stands, as the grammar sees it
 abbrev pub located : Located → grammar.Located
@@ -60,9 +58,9 @@ LineChecked (Err t) before after = line_here before ≡ Err t
 LineChecked (Ok o) before after = (seen house_in (line_here before) ≡ Ok o) × SameLine before after
 
 -- the line was read
-abbrev pub LineRead : Result (Option Located) FormError → Reader → Reader → Type 0
-LineRead (Err (form.Trouble t)) before after = line_here before ≡ Err t
-LineRead (Err form.Memory) before after = Unit {0}
+abbrev pub LineRead : Result (Option Located) (Failed Trouble) → Reader → Reader → Type 0
+LineRead (Err (failed.Fault t)) before after = line_here before ≡ Err t
+LineRead (Err failed.Memory) before after = Unit {0}
 LineRead (Ok o) before after = (line_here before ≡ Ok (said_by o)) × SameLine before after
 
 -- the lines that follow, by whether forms stand before them
@@ -79,12 +77,12 @@ abbrev pub found : List Located → Result (List grammar.Located) Fault → Resu
 found xs r = reading.before (map located xs) r
 
 -- the line was noted: a fault, or what was found before it and in it
-abbrev pub LineNoted : Result (Unit {0}) ReadError → List Located → List Located → Reader → Reader → Type 0
-LineNoted (Err (error.Fault f)) xs ys before after = (k : Following) → on_line before.scan.line (some xs) (line_here before) k ≡ Err f
-LineNoted (Err error.Memory) xs ys before after = Unit {0}
+abbrev pub LineNoted : Result (Unit {0}) (Failed Fault) → List Located → List Located → Reader → Reader → Type 0
+LineNoted (Err (failed.Fault f)) xs ys before after = (k : Following) → on_line before.scan.line (some xs) (line_here before) k ≡ Err f
+LineNoted (Err failed.Memory) xs ys before after = Unit {0}
 LineNoted (Ok _) xs ys before after = ((k : Following) → found xs (on_line before.scan.line (some xs) (line_here before) k) ≡ found ys (k (some ys))) × SameLine before after
 
 -- why a line gives no form
-abbrev pub unread_line : FormError → ℕ → ReadError
-unread_line (form.Trouble t) l = error.Fault (faults.Outside l t)
-unread_line form.Memory l = error.Memory
+abbrev pub unread_line : Failed Trouble → ℕ → Failed Fault
+unread_line (failed.Fault t) l = failed.Fault (faults.Outside l t)
+unread_line failed.Memory l = failed.Memory
