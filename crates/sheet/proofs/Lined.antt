@@ -1,5 +1,5 @@
 -- One line, read by a reader.
-use Rattle.std.proofs.Common.{◌≡◌, ℕ, ◌+◌, Bool, true, false, cond, List, [], ◌∷◌, drop, Ok, Err, Result, sym, refl, ap, ◌∙◌, subst, arith}
+use Rattle.std.proofs.Common.{◌≡◌, ℕ, ◌+◌, Bool, true, false, List, [], ◌∷◌, drop, Ok, Err, Result, sym, refl, ap, ◌∙◌, subst}
 use Rattle.words.specs.declared.bytes.Kind.{Kind}
 use Rattle.words.specs.declared.bytes.Kind.TheVariants.{LineEnd, Space, Open, Close, Semicolon, Letter, Other}
 use Rattle.words.specs.Bytes.{next, behind, Skips, none, more}
@@ -15,13 +15,9 @@ use Rattle.parse.specs.declared.trouble.Failed.TheVariants as failed
 use Rattle.parse.specs.View.{tokens, is_house_of, Built}
 use Rattle.grammar.specs.Grammar.{Said, blank, states}
 use Rattle.grammar.specs.Reading.{formed, start, line_of}
-use Rattle.grammar.proofs.Fields.{ok_same}
 use Rattle.grammar.proofs.Lexed.{Ends, lex_ends}
 use Rattle.grammar.proofs.Saying.{line_end}
 use Rattle.sheet.specs.Lines.{blank_at, line_here, SameLine, LineRead}
-
-both : {A : Type 0} → false ≡ true → A
-both e = let z : ◌≡◌ {A = ℕ} 1 0 = ap (λ b. cond b 0 1) e in absurd (omega arith)
 
 skips_line : {c d : ℕ} {s t : List ℕ} (l : ℕ) → Skips c s d t → line_of l c s ≡ line_of l d t
 skips_line l none = refl
@@ -40,19 +36,19 @@ line_start l c (b ∷ bs) k e = ap (λ j. start j (line_of l (c + 1) bs) (formed
 
 start_blank : (k : Kind) (r f : Result Said Trouble) → blank_at k ≡ true → start k r f ≡ Ok blank
 start_blank LineEnd r f h = refl
-start_blank Space r f h = both h
-start_blank Open r f h = both h
-start_blank Close r f h = both h
+start_blank Space r f h = cc
+start_blank Open r f h = cc
+start_blank Close r f h = cc
 start_blank Semicolon r f h = refl
-start_blank Letter r f h = both h
-start_blank Other r f h = both h
+start_blank Letter r f h = cc
+start_blank Other r f h = cc
 
 start_form : (k : Kind) (r f : Result Said Trouble) → blank_at k ≡ false → (k ≡ Space → ⊥) → start k r f ≡ f
-start_form LineEnd r f h c = both (sym h)
+start_form LineEnd r f h c = cc
 start_form Space r f h c = absurd (c refl)
 start_form Open r f h c = refl
 start_form Close r f h c = refl
-start_form Semicolon r f h c = both (sym h)
+start_form Semicolon r f h c = cc
 start_form Letter r f h c = refl
 start_form Other r f h c = refl
 
@@ -72,16 +68,12 @@ end_trouble l ts us f t e h = ap (λ r. then r (λ f us. then (end_of us) (λ _ 
 pub form_done : (l : ℕ) (ts us vs : List Tok) (f : Shape) → form_of ts ≡ Ok (f, us) → end_of us ≡ Ok (tt, vs) → formed l ts ≡ Ok (states (record { line = l; shape = f; words = words_in ts }))
 form_done l ts us vs f e h = ap (λ r. then r (λ f us. then (end_of us) (λ _ _. Ok (states (record { line = l; shape = f; words = words_in ts }))))) e ∙ ap (λ r. then r (λ _ _. Ok (states (record { line = l; shape = f; words = words_in ts })))) h
 
-same_end : (m l d : ℕ) (c : ℕ) (s t : List ℕ) → end m d t ∷ [] ≡ end l c s ∷ [] → (l ≡ m) × (s ≡ t)
-same_end m l d c s t e = (cc, cc)
-
 -- a reader at the end of the line stands on it
 pub same_line : (r q : Reader) (f : Shape) (us : List Tok) → form_of (tokens r) ≡ Ok (f, us) → end_of us ≡ Ok (tt, tokens q) → SameLine r q
 same_line r q f us e h =
     let p = line_end r.scan.line r.scan.column (rest r.scan) f us (tokens q) e h in
     let w : Ends q.scan.line (behind (rest q.scan)) (end r.scan.line p.0 (behind (rest r.scan)) ∷ []) = subst (Ends q.scan.line (behind (rest q.scan))) p.1 (lex_ends q.scan.line q.scan.column (rest q.scan)) in
-    let z = same_end r.scan.line q.scan.line p.0 _ (behind (rest q.scan)) (behind (rest r.scan)) w in
-    record { line = z.0; tail = z.1 }
+    record { line = cc; tail = cc }
 
 pub same_more : {o r q : Reader} → SameLine o r → SameLine r q → SameLine o q
 same_more a b = record { line = b.line ∙ a.line; tail = b.tail ∙ a.tail }
@@ -89,11 +81,11 @@ same_more a b = record { line = b.line ∙ a.line; tail = b.tail ∙ a.tail }
 -- what a check of a form tells of the form
 pub house_trouble : (r : Read Shape) (t : Trouble) → is_house_of r ≡ Err t → r ≡ Err t
 house_trouble (Err u) t e = cc
-house_trouble (Ok x) t e = let z : ◌≡◌ {A = ℕ} 0 1 = cc in absurd (omega arith)
+house_trouble (Ok x) t e = cc
 
 pub house_ok : (r : Read Shape) (h : Bool) (us : List Tok) → is_house_of r ≡ Ok (h, us) → (f : Shape) × (r ≡ Ok (f, us)) × (is_house f ≡ h)
-house_ok (Err u) h us e = let z : ◌≡◌ {A = ℕ} 0 1 = cc in absurd (omega arith)
-house_ok (Ok (f, vs)) h us e = let p = ok_same _ _ e in (f, λ j. Ok (f, (p j).1), λ j. (p j).0)
+house_ok (Err u) h us e = cc
+house_ok (Ok (f, vs)) h us e = let p : ◌≡◌ {A = Bool × List Tok} (is_house f, vs) (h, us) = cc in (f, λ j. Ok (f, (p j).1), λ j. (p j).0)
 
 pub read_trouble : (o q : Reader) (l : ℕ) (ts left : List Tok) (e : Failed Trouble) → line_here o ≡ formed l ts → Built shape (Err e) (form_of ts) left → LineRead (Err e) o q
 read_trouble o q l ts left (failed.Fault t) is b = is ∙ form_trouble l ts t b
