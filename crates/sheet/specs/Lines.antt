@@ -1,7 +1,5 @@
 -- One line of a sheet: what the code's answers stand for.
 use Rattle.std.specs.Prelude.{◌≡◌, ℕ, Bool, true, false, List, map, Some, None, Ok, Err, Option, Result}
-use Rattle.words.specs.declared.bytes.Kind.{Kind}
-use Rattle.words.specs.declared.bytes.Kind.TheVariants.{LineEnd, Space, Open, Close, Semicolon, Letter, Other}
 use Rattle.words.specs.Bytes.{behind}
 use Rattle.words.specs.View.{rest, words_in}
 use Rattle.forms.specs.declared.fault.Fault.{Fault}
@@ -15,7 +13,7 @@ use Rattle.parse.specs.Parser.{seen}
 use Rattle.parse.specs.View.{tokens}
 use Rattle.grammar.specs.Grammar as grammar
 use Rattle.grammar.specs.Grammar.{Said, blank, states}
-use Rattle.grammar.specs.Reading.{line_of, on_line, accepted}
+use Rattle.grammar.specs.Reading.{formed, line_of, on_line, accepted}
 use Rattle.grammar.specs.Reading as reading
 use Rattle.grammar.specs.Sheets.{some}
 use Rattle.sheet.specs.declared.located.Located.{Located}
@@ -28,20 +26,15 @@ located x = record { line = x.line; shape = shape x.form; words = words_in (toke
 abbrev pub line_here : Reader → Result Said Trouble
 line_here r = line_of r.scan.line r.scan.column (rest r.scan)
 
--- whether a line that goes on with this has no form
-abbrev pub blank_at : Kind → Bool
-blank_at LineEnd = true
-blank_at Space = false
-blank_at Open = false
-blank_at Close = false
-blank_at Semicolon = true
-blank_at Letter = false
-blank_at Other = false
-
 -- two readers stand on one line
 pub record SameLine (before after : Reader) : Type 0 where
   pub line : after.scan.line ≡ before.scan.line
   pub tail : behind (rest after.scan) ≡ behind (rest before.scan)
+
+-- spaces were passed over: the line has no form, or it says what the tokens from here on say
+abbrev pub LineBegun : Bool → Reader → Reader → Type 0
+LineBegun true before after = (line_here before ≡ Ok blank) × SameLine before after
+LineBegun false before after = (line_here before ≡ formed after.scan.line (tokens after)) × SameLine before after
 
 -- whether what a line says is a house form
 abbrev pub house_in : Said → Option Bool

@@ -3,7 +3,7 @@ ghost use Rattle.std.specs.Prelude.{◌≡◌, cond, length, nat_lt, Ok, Err};
 ghost use mathlib.Core.Bool.{beq};
 ghost use Rattle.grammar.specs.Reading.{stray};
 ghost use Rattle.grammar.specs.Sheets.{longest};
-ghost use Rattle.sheet.specs.Lines.{blank_at, LineChecked, LineRead, LineJudged, LineNoted, unread_line};
+ghost use Rattle.sheet.specs.Lines.{LineBegun, LineChecked, LineRead, LineJudged, LineNoted, unread_line};
 ghost use Rattle.sheet.specs.Promises.{Verdict, ReadAs};
 
 use crate::located::{Located, ReadError};
@@ -30,18 +30,18 @@ fn too_long(sheet: &[u8]) -> bool
     sheet.len() > LONGEST
 }
 
-// Whether a line that goes on with this has no form: it ends there, or a comment begins.
-fn is_blank(kind: Kind) -> bool
-    ensures { result ≡ blank_at kind }
+// Moves past spaces, and tells whether the line has no form: it ends there, or a comment begins.
+fn is_blank(reader: &mut Reader) -> bool
+    ensures { LineBegun result reader.old reader.new }
 {
-    matches!(kind, Kind::LineEnd | Kind::Semicolon)
+    matches!(reader.spaces(), Kind::LineEnd | Kind::Semicolon)
 }
 
 // Passes over a line: nothing, or whether its form is a house form.
 fn check_line(reader: &mut Reader) -> Result<Option<bool>, Trouble>
     ensures { LineChecked result reader.old reader.new }
 {
-    if is_blank(reader.spaces()) {
+    if is_blank(reader) {
         return Ok(None);
     }
     let house = reader.check_form()?;
@@ -53,7 +53,7 @@ fn check_line(reader: &mut Reader) -> Result<Option<bool>, Trouble>
 fn read_line<'a>(reader: &mut Reader<'a>, heap: Global) -> Result<Option<Located<'a>>, FormError>
     ensures { LineRead result reader.old reader.new }
 {
-    if is_blank(reader.spaces()) {
+    if is_blank(reader) {
         return Ok(None);
     }
     let start = *reader;
