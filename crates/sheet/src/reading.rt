@@ -50,6 +50,8 @@ fn check_line(reader: &mut Reader) -> Result<Option<bool>, Trouble>
 }
 
 // What a line says: nothing, or a form.
+// By hand, beside `check_line`, as `note_line` beside `judge_line` and `read` beside `verdict`: judging needs no memory,
+// and a trait for what is kept of a form, with its laws, would be longer than what each pair shares.
 fn read_line<'a>(reader: &mut Reader<'a>, heap: Global) -> Result<Option<Located<'a>>, FormError>
     ensures { LineRead result reader.old reader.new }
 {
