@@ -16,7 +16,7 @@ use Rattle.grammar.specs.Grammar.{Said, states}
 use Rattle.grammar.specs.Reading.{line_of, later, on_line, read_lines, read_of, accepted, verdict_of}
 use Rattle.grammar.specs.Sheets.{longest, some, Reads}
 use Rattle.grammar.proofs.Parts.{reads_parts}
-use Rattle.grammar.proofs.Sheets.{ok_or_err, whole, read_sound, read_complete, fault_sound, fault_complete}
+use Rattle.grammar.proofs.Sheets.{whole, read_sound, read_complete, fault_sound, fault_complete}
 use Rattle.sheet.specs.declared.located.Located.{Located}
 use Rattle.parse.specs.declared.trouble.Failed.{Failed}
 use Rattle.parse.specs.declared.trouble.Failed.TheVariants as failed
@@ -60,13 +60,13 @@ last o b tail = ap (read_lines (o.scan.line + 1) b) (later_none (rest o.scan) ta
 
 -- what the reader computes is what the grammar says
 pub accepted_is : (s : List ℕ) (fs : List grammar.Located) → read_of s ≡ Ok fs → Accepted s
-accepted_is s fs e = record { forms = fs; derived = read_sound s fs e; fair = λ k m u. let p = fault_complete s k m u in ok_or_err fs p.0 (sym e ∙ p.1) }
+accepted_is s fs e = record { forms = fs; derived = read_sound s fs e; fair = λ k m u. let p = fault_complete s k m u in cc }
 
 pub refused_is : (s : List ℕ) (f : Fault) → read_of s ≡ Err f → Refused s f
 refused_is s f e = record {
   ground = fault_sound s f e;
   only = λ k m u. let p = fault_complete s k m u in let i : p.0 ≡ f = cc in (sym p.2 ∙ ap number_of i, sym p.3 ∙ ap fault.line_of i);
-  underived = λ fs r. ok_or_err fs f (sym (read_complete s fs r) ∙ e);
+  underived = λ fs r. let h = read_complete s fs r in cc;
 }
 
 exact : (s : List ℕ) → Exactly s (verdict_of s)
