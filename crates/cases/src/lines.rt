@@ -1,5 +1,6 @@
 // Sheets and the report on each, as tables.
 use sheet::report::report;
+use std::process::Abort;
 use std::test::Fail;
 
 // A sheet, and what a check of it writes.
@@ -630,56 +631,41 @@ const HOUSE_FORM_FIRST_AND_ONCE: [Case; 10] = [
     },
 ];
 
-#[test]
-fn lines_and_comments(rt: HostRuntime) -> Result<(), Fail> {
-    for case in LINES_AND_COMMENTS.iter() {
+// Runs each case of a table.
+fn check(rt: &(impl Abort + AllocGlobal), cases: &[Case]) -> Result<(), Fail> {
+    for (i, case) in cases.iter().enumerate() {
         let text = report(rt.alloc(), case.sheet)?;
-        assert_eq!(rt; text.as_str(), case.says);
+        assert_eq!(rt; text.as_str(), case.says, "case {i}, from 0");
     }
     Ok(())
+}
+
+#[test]
+fn lines_and_comments(rt: HostRuntime) -> Result<(), Fail> {
+    check(&rt, &LINES_AND_COMMENTS)
 }
 
 #[test]
 fn every_form_is_read(rt: HostRuntime) -> Result<(), Fail> {
-    for case in EVERY_FORM.iter() {
-        let text = report(rt.alloc(), case.sheet)?;
-        assert_eq!(rt; text.as_str(), case.says);
-    }
-    Ok(())
+    check(&rt, &EVERY_FORM)
 }
 
 #[test]
 fn numbers_at_each_edge(rt: HostRuntime) -> Result<(), Fail> {
-    for case in NUMBERS_AT_EACH_EDGE.iter() {
-        let text = report(rt.alloc(), case.sheet)?;
-        assert_eq!(rt; text.as_str(), case.says);
-    }
-    Ok(())
+    check(&rt, &NUMBERS_AT_EACH_EDGE)
 }
 
 #[test]
 fn every_word_wrong_once(rt: HostRuntime) -> Result<(), Fail> {
-    for case in EVERY_WORD_WRONG_ONCE.iter() {
-        let text = report(rt.alloc(), case.sheet)?;
-        assert_eq!(rt; text.as_str(), case.says);
-    }
-    Ok(())
+    check(&rt, &EVERY_WORD_WRONG_ONCE)
 }
 
 #[test]
 fn brackets_and_lists(rt: HostRuntime) -> Result<(), Fail> {
-    for case in BRACKETS_AND_LISTS.iter() {
-        let text = report(rt.alloc(), case.sheet)?;
-        assert_eq!(rt; text.as_str(), case.says);
-    }
-    Ok(())
+    check(&rt, &BRACKETS_AND_LISTS)
 }
 
 #[test]
 fn house_form_first_and_once(rt: HostRuntime) -> Result<(), Fail> {
-    for case in HOUSE_FORM_FIRST_AND_ONCE.iter() {
-        let text = report(rt.alloc(), case.sheet)?;
-        assert_eq!(rt; text.as_str(), case.says);
-    }
-    Ok(())
+    check(&rt, &HOUSE_FORM_FIRST_AND_ONCE)
 }

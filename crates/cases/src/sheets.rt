@@ -35,9 +35,8 @@ fn length_is_limited(rt: HostRuntime) -> Result<(), Fail> {
 #[test]
 fn words_have_their_places(rt: HostRuntime) -> Result<(), Fail> {
     let sheet = b"(house 1 series)\n;\n  (settle( at 5))";
-    let forms = match read(rt.alloc(), sheet) {
-        Ok(forms) => forms,
-        Err(_) => return Err(Fail::new("the sheet is legal")),
+    let Ok(forms) = read(rt.alloc(), sheet) else {
+        return Err(Fail::new("the sheet is legal"));
     };
     assert!(rt; forms.len() == 2);
     assert_eq!(rt; forms[1].line, 3);

@@ -1,5 +1,5 @@
 -- The readers of a form's fields, and what they read.
-use Rattle.std.proofs.Common.{◌≡◌, ℕ, Bool, true, false, List, [], ◌∷◌, ◌++◌, ℤ, Some, None, Ok, Err, Option, Result, sym, refl, ap, ◌∙◌, subst, arith}
+use Rattle.std.proofs.Common.{◌≡◌, ℕ, Bool, true, false, List, [], ◌∷◌, ◌++◌, ℤ, Some, None, Ok, Err, Option, Result, sym, refl, ap, ◌∙◌, subst}
 use Rattle.std.specs.Str.{bytes_eq}
 use Rattle.std.proofs.lemmas.Slice.Eq.{bytes_eq-Decides}
 use Rattle.std.proofs.lemmas.Bool.{cond-true, cond-false}
@@ -29,18 +29,15 @@ use Rattle.grammar.proofs.Spelling.{Spells, none, opens, closes, words, join, pa
 pub ok_same : {A E : Type 0} (x y : A) → ◌≡◌ {A = Result A E} (Ok x) (Ok y) → x ≡ y
 ok_same x y e = cc
 
-pub never_ok : {A B E : Type 0} (t : E) (x : A) → ◌≡◌ {A = Result A E} (Err t) (Ok x) → B
-never_ok t x e = let z : ◌≡◌ {A = ℕ} 0 1 = cc in absurd (omega arith)
-
 pub never_some : {A B : Type 0} (x : A) → ◌≡◌ {A = Option A} None (Some x) → B
-never_some x e = let z : ◌≡◌ {A = ℕ} 0 1 = cc in absurd (omega arith)
+never_some x e = cc
 
 pub some_same : {A : Type 0} (x y : A) → Some x ≡ Some y → x ≡ y
 some_same x y e = cc
 
 -- what a step read, where the whole was read
 pub then_ok : {A B : Type 0} (r : Read A) (k : A → List Tok → Result B Trouble) (y : B) → then r k ≡ Ok y → (x : A) × (us : List Tok) × (r ≡ Ok (x, us)) × (k x us ≡ Ok y)
-then_ok (Err t) k y e = never_ok t y e
+then_ok (Err t) k y e = cc
 then_ok (Ok x) k y e = (x.0, x.1, refl, e)
 
 -- Reads: the reader takes what spells a value, by a text of which P tells the value, and nothing else.
@@ -76,13 +73,13 @@ pub opening_read : (e : Expected) → Reads (open_of e) (λ _ _. Bare.opening �
 opening_read e = record { sound = go; complete = back }
   where
     go : (ts us : List Tok) (x : Unit {0}) → open_of e ts ≡ Ok (x, us) → (w : List ℕ) × Any w x × Spells ts (Bare.opening ∷ []) us
-    go [] us x h = never_ok _ _ h
+    go [] us x h = cc
     go (toks.opening c ∷ ts) us x h = ([], tt, subst (λ vs. Spells (toks.opening c ∷ ts) (Bare.opening ∷ []) vs) (λ j. (ok_same _ _ h j).1) (opens none))
-    go (toks.closing c ∷ ts) us x h = never_ok _ _ h
-    go (toks.word l c w ∷ ts) us x h = never_ok _ _ h
-    go (toks.bad_byte c ∷ ts) us x h = never_ok _ _ h
-    go (toks.long_word c ∷ ts) us x h = never_ok _ _ h
-    go (toks.end l c s ∷ ts) us x h = never_ok _ _ h
+    go (toks.closing c ∷ ts) us x h = cc
+    go (toks.word l c w ∷ ts) us x h = cc
+    go (toks.bad_byte c ∷ ts) us x h = cc
+    go (toks.long_word c ∷ ts) us x h = cc
+    go (toks.end l c s ∷ ts) us x h = cc
 
     back : (ts us : List Tok) (w : List ℕ) (x : Unit {0}) → Any w x → Spells ts (Bare.opening ∷ []) us → open_of e ts ≡ Ok (x, us)
     back ts us w x h (opens none) = refl
@@ -91,19 +88,19 @@ pub closing_read : Reads close_of (λ _ _. Bare.closing ∷ []) Any
 closing_read = record { sound = go; complete = back }
   where
     go : (ts us : List Tok) (x : Unit {0}) → close_of ts ≡ Ok (x, us) → (w : List ℕ) × Any w x × Spells ts (Bare.closing ∷ []) us
-    go [] us x h = never_ok _ _ h
-    go (toks.opening c ∷ ts) us x h = never_ok _ _ h
+    go [] us x h = cc
+    go (toks.opening c ∷ ts) us x h = cc
     go (toks.closing c ∷ ts) us x h = ([], tt, subst (λ vs. Spells (toks.closing c ∷ ts) (Bare.closing ∷ []) vs) (λ j. (ok_same _ _ h j).1) (closes none))
-    go (toks.word l c w ∷ ts) us x h = never_ok _ _ h
-    go (toks.bad_byte c ∷ ts) us x h = never_ok _ _ h
-    go (toks.long_word c ∷ ts) us x h = never_ok _ _ h
-    go (toks.end l c s ∷ ts) us x h = never_ok _ _ h
+    go (toks.word l c w ∷ ts) us x h = cc
+    go (toks.bad_byte c ∷ ts) us x h = cc
+    go (toks.long_word c ∷ ts) us x h = cc
+    go (toks.end l c s ∷ ts) us x h = cc
 
     back : (ts us : List Tok) (w : List ℕ) (x : Unit {0}) → Any w x → Spells ts (Bare.closing ∷ []) us → close_of ts ≡ Ok (x, us)
     back ts us w x h (closes none) = refl
 
 known_ok : {A : Type 0} (o : Option A) (p : Placed) (e : Expected) (ts us : List Tok) (x : A) → beside (known o p e) ts ≡ Ok (x, us) → (o ≡ Some x) × (ts ≡ us)
-known_ok None p e ts us x h = never_ok _ _ h
+known_ok None p e ts us x h = cc
 known_ok (Some y) p e ts us x h = let q = ok_same _ _ h in (λ j. Some (q j).0, λ j. (q j).1)
 
 -- a word that f reads
@@ -111,16 +108,16 @@ pub value_read : {A : Type 0} (f : List ℕ → Option A) (e : Expected) (name :
 value_read {A} f e name P from to = record { sound = go; complete = back }
   where
     go : (ts us : List Tok) (x : A) → value_of f e ts ≡ Ok (x, us) → (w : List ℕ) × P w x × Spells ts (Bare.word (name w x) ∷ []) us
-    go [] us x h = never_ok _ _ h
-    go (toks.opening c ∷ ts) us x h = never_ok _ _ h
-    go (toks.closing c ∷ ts) us x h = never_ok _ _ h
+    go [] us x h = cc
+    go (toks.opening c ∷ ts) us x h = cc
+    go (toks.closing c ∷ ts) us x h = cc
     go (toks.word l c w ∷ ts) us x h =
         let q = known_ok (f w) (record { line = l; column = c; bytes = w }) e ts us x h in
         let v = from w x q.0 in
         (v.0, v.1, subst (λ u. Spells (toks.word l c w ∷ ts) (Bare.word u ∷ []) us) v.2 (words (subst (λ vs. Spells ts [] vs) q.1 none)))
-    go (toks.bad_byte c ∷ ts) us x h = never_ok _ _ h
-    go (toks.long_word c ∷ ts) us x h = never_ok _ _ h
-    go (toks.end l c s ∷ ts) us x h = never_ok _ _ h
+    go (toks.bad_byte c ∷ ts) us x h = cc
+    go (toks.long_word c ∷ ts) us x h = cc
+    go (toks.end l c s ∷ ts) us x h = cc
 
     back : (ts us : List Tok) (w : List ℕ) (x : A) → P w x → Spells ts (Bare.word (name w x) ∷ []) us → value_of f e ts ≡ Ok (x, us)
     back ts us w x h p =

@@ -14,7 +14,7 @@ use Rattle.parse.specs.Parser as parser
 use Rattle.grammar.specs.Grammar.{Bare, keyed, Numbers, Legs}
 use Rattle.grammar.proofs.Spelling.{Spells, opens, closes, words, join, one_word, nothing_left, spelt_length}
 use Rattle.grammar.proofs.Spelling as spelling
-use Rattle.grammar.proofs.Fields.{ok_same, never_ok, Reads, step, follow, closing_read, number, number_from, number_is, side}
+use Rattle.grammar.proofs.Fields.{ok_same, Reads, step, follow, closing_read, number, number_from, number_is, side}
 
 -- an item, or the closing bracket behind the last
 abbrev pub or_closing : {A : Type 0} → (List ℕ → A → List Bare) → List ℕ → Option A → List Bare
@@ -30,11 +30,11 @@ pub data Items {A : Type 0} (shape : List ℕ → A → List Bare) (P : List ℕ
   more : {w : List ℕ} {x : A} {bs : List Bare} {xs : List A} → P w x → Items shape P bs xs → Items shape P (shape w x ++ bs) (x ∷ xs)
 
 onto_ok : {A : Type 0} (x : A) (r : Read (List A)) (xs : List A) (us : List Tok) → onto (x ∷ []) r ≡ Ok (xs, us) → (ys : List A) × (r ≡ Ok (ys, us)) × (x ∷ ys ≡ xs)
-onto_ok x (Err t) xs us e = never_ok _ _ e
+onto_ok x (Err t) xs us e = cc
 onto_ok x (Ok r) xs us e = let q = ok_same _ _ e in (r.0, (λ j. Ok (r.0, (q j).1)), λ j. (q j).0)
 
 items_sound : {A : Type 0} {r : List Tok → Read (Option A)} {shape : List ℕ → A → List Bare} {P : List ℕ → A → Type 0} → Reads r (or_closing shape) (OrDone P) → (n : ℕ) (ts us : List Tok) (xs : List A) → up_to r n ts ≡ Ok (xs, us) → (bs : List Bare) × Items shape P bs xs × Spells ts (bs ++ Bare.closing ∷ []) us
-items_sound s zero ts us xs e = never_ok _ _ e
+items_sound s zero ts us xs e = cc
 items_sound {A} {r} {shape} {P} s (suc n) ts us xs e = let a = step s e in go (items_sound s n) a.text a.value a.left a.is a.spelt a.next
   where
     go : ((vs zs : List Tok) (ys : List A) → up_to r n vs ≡ Ok (ys, zs) → (bs : List Bare) × Items shape P bs ys × Spells vs (bs ++ Bare.closing ∷ []) zs) → (w : List ℕ) (o : Option A) (vs : List Tok) → OrDone P w o → Spells ts (or_closing shape w o) vs → parser.more o vs (up_to r n) ≡ Ok (xs, us) → (bs : List Bare) × Items shape P bs xs × Spells ts (bs ++ Bare.closing ∷ []) us
@@ -66,24 +66,24 @@ reads_all R s some from to = record {
 }
 
 known_some : (o : Option ℤ) (w : Placed) (e : Expected) (ts us : List Tok) (x : Option ℤ) → beside (seen Some (known o w e)) ts ≡ Ok (x, us) → (n : ℤ) × (o ≡ Some n) × (x ≡ Some n) × (ts ≡ us)
-known_some None w e ts us x h = never_ok _ _ h
+known_some None w e ts us x h = cc
 known_some (Some n) w e ts us x h = let q = ok_same _ _ h in (n, refl, (λ j. (sym q j).0), λ j. (q j).1)
 
 size : Reads size_of (or_closing (λ w _. Bare.word w ∷ [])) (OrDone Number)
 size = record { sound = go; complete = back }
   where
     go : (ts us : List Tok) (x : Option ℤ) → size_of ts ≡ Ok (x, us) → (w : List ℕ) × OrDone Number w x × Spells ts (or_closing (λ w _. Bare.word w ∷ []) w x) us
-    go [] us x h = never_ok _ _ h
-    go (toks.opening c ∷ ts) us x h = never_ok _ _ h
+    go [] us x h = cc
+    go (toks.opening c ∷ ts) us x h = cc
     go (toks.closing c ∷ ts) us x h =
         let q = ok_same _ _ h in
         subst (λ y. (w : List ℕ) × OrDone Number w y × Spells (toks.closing c ∷ ts) (or_closing (λ w _. Bare.word w ∷ []) w y) us) (λ j. (q j).0) ([], tt, closes (subst (λ vs. Spells ts [] vs) (λ j. (q j).1) spelling.none))
     go (toks.word l c v ∷ ts) us x h =
         let q = known_some (read_number v) (record { line = l; column = c; bytes = v }) expected.Size ts us x h in
         subst (λ y. (w : List ℕ) × OrDone Number w y × Spells (toks.word l c v ∷ ts) (or_closing (λ w _. Bare.word w ∷ []) w y) us) (sym q.2) (v, number_from v q.0 q.1, words (subst (λ vs. Spells ts [] vs) q.3 spelling.none))
-    go (toks.bad_byte c ∷ ts) us x h = never_ok _ _ h
-    go (toks.long_word c ∷ ts) us x h = never_ok _ _ h
-    go (toks.end l c s ∷ ts) us x h = never_ok _ _ h
+    go (toks.bad_byte c ∷ ts) us x h = cc
+    go (toks.long_word c ∷ ts) us x h = cc
+    go (toks.end l c s ∷ ts) us x h = cc
 
     back : (ts us : List Tok) (w : List ℕ) (x : Option ℤ) → OrDone Number w x → Spells ts (or_closing (λ w _. Bare.word w ∷ []) w x) us → size_of ts ≡ Ok (x, us)
     back ts us w None h (closes spelling.none) = refl
@@ -101,7 +101,7 @@ leg : Reads next_leg_of (or_closing leg_shape) (OrDone LegIs)
 leg = record { sound = go; complete = back }
   where
     go : (ts us : List Tok) (x : Option Leg) → next_leg_of ts ≡ Ok (x, us) → (w : List ℕ) × OrDone LegIs w x × Spells ts (or_closing leg_shape w x) us
-    go [] us x h = never_ok _ _ h
+    go [] us x h = cc
     go (toks.opening c ∷ ts) us x h =
         let a = step side h in
         let b = step number a.next in
@@ -112,10 +112,10 @@ leg = record { sound = go; complete = back }
     go (toks.closing c ∷ ts) us x h =
         let q = ok_same _ _ h in
         subst (λ y. (w : List ℕ) × OrDone LegIs w y × Spells (toks.closing c ∷ ts) (or_closing leg_shape w y) us) (λ j. (q j).0) ([], tt, closes (subst (λ vs. Spells ts [] vs) (λ j. (q j).1) spelling.none))
-    go (toks.word l c v ∷ ts) us x h = never_ok _ _ h
-    go (toks.bad_byte c ∷ ts) us x h = never_ok _ _ h
-    go (toks.long_word c ∷ ts) us x h = never_ok _ _ h
-    go (toks.end l c s ∷ ts) us x h = never_ok _ _ h
+    go (toks.word l c v ∷ ts) us x h = cc
+    go (toks.bad_byte c ∷ ts) us x h = cc
+    go (toks.long_word c ∷ ts) us x h = cc
+    go (toks.end l c s ∷ ts) us x h = cc
 
     back : (ts us : List Tok) (w : List ℕ) (x : Option Leg) → OrDone LegIs w x → Spells ts (or_closing leg_shape w x) us → next_leg_of ts ≡ Ok (x, us)
     back ts us w None h (closes spelling.none) = refl

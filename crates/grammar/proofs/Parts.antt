@@ -1,5 +1,5 @@
 -- The words of a sheet are parts of it.
-use Rattle.std.proofs.Common.{◌≡◌, ℕ, ◌+◌, ◌<◌, Bool, true, false, cond, eqb, List, [], ◌∷◌, ◌++◌, map, length, get_or, take, drop, sym, refl, ap, ◌∙◌, subst, append_assoc, add-zero, arith, length-drop}
+use Rattle.std.proofs.Common.{◌≡◌, ℕ, ◌+◌, ◌<◌, Bool, true, false, eqb, List, [], ◌∷◌, ◌++◌, map, length, get_or, take, drop, sym, refl, ap, ◌∙◌, subst, append_assoc, add-zero, arith, length-drop}
 use Rattle.std.specs.List.{AllByRecursion}
 use Rattle.std.proofs.lemmas.List.{at_drop_more, drop-drop, take_at}
 use Rattle.std.proofs.lemmas.Bool.{cond-true, cond-false, eqb-true, eq-eqb, ne_eqb}
@@ -64,8 +64,8 @@ pieces_parts {s} {l} {c} v at (Pieces.words {w = w} {s = t} some few all stops p
     (word_part w (t ++ v) k, pieces_parts v (at + length w) p (past w (t ++ v) at c all k))
 
 says_parts : {s : List ℕ} {l c : ℕ} {u : List ℕ} {x : Said} (v : List ℕ) (f : Located) (at : ℕ) → Says l c u x → x ≡ states f → At s at l c (u ++ v) → AllByRecursion (PartOf s) f.words
-says_parts v f at Says.nothing e h = let z : ◌≡◌ {A = ℕ} 0 1 = cc in absurd (omega arith)
-says_parts v f at Says.comment e h = let z : ◌≡◌ {A = ℕ} 0 1 = cc in absurd (omega arith)
+says_parts v f at Says.nothing e h = cc
+says_parts v f at Says.comment e h = cc
 says_parts v f at (Says.space p) e h = says_parts v f (at + 1) p e (step h (λ i. omega arith))
 says_parts {s} v f at (Says.form {ps = ps} p w) e h = let i : words_of ps ≡ f.words = ap said_words e in subst (AllByRecursion (PartOf s)) i (pieces_parts v at p h)
   where
@@ -92,10 +92,7 @@ starts s at n c (b ∷ bs) h = go (λ k. starts s (at + 1) (n + 1) 1 bs k) (λ k
   where
     go : (At s (at + 1) (n + 1) 1 bs → Starts s (n + 1 + 1) (later bs)) → (At s (at + 1) n (c + 1) bs → Starts s (n + 1) (later bs)) → (x : Bool) → eqb b 10 ≡ x → Starts s (n + 1) (later (b ∷ bs))
     go i j true e = let k = step_line h (eqb-true b 10 e) in subst (Starts s (n + 1)) (sym (cond-true _ _ _ e)) ((at + 1, k), i k)
-    go i j false e = subst (Starts s (n + 1)) (sym (cond-false _ _ _ e)) (j (step h (λ z. both (eqb b 10) (eq-eqb b 10 z) e)))
-      where
-        both : {A : Type 0} (x : Bool) → x ≡ true → x ≡ false → A
-        both x t f = let z : ◌≡◌ {A = ℕ} 0 1 = sym (ap (λ y. cond y 0 1) t) ∙ ap (λ y. cond y 0 1) f in absurd (omega arith)
+    go i j false e = subst (Starts s (n + 1)) (sym (cond-false _ _ _ e)) (j (step h (λ z. let t = eq-eqb b 10 z in cc)))
 
 holds_parts : (s : List ℕ) (n : ℕ) (us : List (List ℕ)) (fs : List Located) → Holds n (map front us) fs → Starts s n us → Parts s fs
 holds_parts s n [] fs Holds.none h = tt

@@ -1,5 +1,5 @@
 -- A listing of forms reads as those forms.
-use Rattle.std.proofs.Common.{◌≡◌, ℕ, ◌+◌, true, false, eqb, List, [], ◌∷◌, ◌++◌, map, sym, refl, ap, ◌∙◌, subst, arith}
+use Rattle.std.proofs.Common.{◌≡◌, ℕ, ◌+◌, true, false, eqb, List, [], ◌∷◌, ◌++◌, map, sym, refl, ap, ◌∙◌, subst}
 use Rattle.std.specs.List.{AllByRecursion}
 use Rattle.std.proofs.lemmas.Bool.{cond-false, ne_eqb}
 use Rattle.words.specs.Bytes.{word_byte}
@@ -28,7 +28,7 @@ pieces_line (Pieces.words {w = w} {s = s} some few all stops p) = word_line w s 
 
 says_line : {l c : ℕ} {s : List ℕ} {x : Said} (f : Located) → Says l c s x → x ≡ states f → OneLine s
 says_line f Says.nothing e = tt
-says_line f Says.comment e = let z : ◌≡◌ {A = ℕ} 0 1 = cc in absurd (omega arith)
+says_line f Says.comment e = cc
 says_line f (Says.space p) e = (refl, says_line f p e)
 says_line f (Says.form p w) e = pieces_line p
 
@@ -42,8 +42,8 @@ abbrev Written : Located → Type 0
 Written f = (bs : List Bare) × Writes bs f.shape
 
 says_written : {l c : ℕ} {s : List ℕ} {x : Said} (f : Located) → Says l c s x → x ≡ states f → Written f
-says_written f Says.nothing e = let z : ◌≡◌ {A = ℕ} 0 1 = cc in absurd (omega arith)
-says_written f Says.comment e = let z : ◌≡◌ {A = ℕ} 0 1 = cc in absurd (omega arith)
+says_written f Says.nothing e = cc
+says_written f Says.comment e = cc
 says_written f (Says.space p) e = says_written f p e
 says_written f (Says.form {ps = ps} {f = g} p w) e = (map bare ps, subst (Writes (map bare ps)) (ap shape_of e) w)
   where

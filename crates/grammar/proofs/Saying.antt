@@ -13,17 +13,17 @@ use Rattle.parse.specs.Parser.{then, form_of, end_of}
 use Rattle.grammar.specs.Grammar.{Writes, Said, blank, states, Says}
 use Rattle.grammar.specs.Reading.{formed, start, line_of}
 use Rattle.grammar.proofs.Spelling.{Spells}
-use Rattle.grammar.proofs.Fields.{ok_same, never_ok, then_ok}
+use Rattle.grammar.proofs.Fields.{ok_same, then_ok}
 use Rattle.grammar.proofs.Parsing.{form_sound, form_complete}
 use Rattle.grammar.proofs.Lexed.{words_in_pieces, spelt_clean, Ends, spelt_ends, lex_ends, front_more, lex_sound, lex_complete}
 
 end_ok : (us vs : List Tok) (x : Unit {0}) → end_of us ≡ Ok (x, vs) → (l c : ℕ) × (s : List ℕ) × (ts : List Tok) × (us ≡ end l c s ∷ ts) × (vs ≡ end l c s ∷ ts)
-end_ok [] vs x e = never_ok _ _ e
-end_ok (toks.opening c ∷ us) vs x e = never_ok _ _ e
-end_ok (toks.closing c ∷ us) vs x e = never_ok _ _ e
-end_ok (toks.word l c w ∷ us) vs x e = never_ok _ _ e
-end_ok (toks.bad_byte c ∷ us) vs x e = never_ok _ _ e
-end_ok (toks.long_word c ∷ us) vs x e = never_ok _ _ e
+end_ok [] vs x e = cc
+end_ok (toks.opening c ∷ us) vs x e = cc
+end_ok (toks.closing c ∷ us) vs x e = cc
+end_ok (toks.word l c w ∷ us) vs x e = cc
+end_ok (toks.bad_byte c ∷ us) vs x e = cc
+end_ok (toks.long_word c ∷ us) vs x e = cc
 end_ok (end l c s ∷ us) vs x e = (l, c, s, us, refl, λ j. (ok_same _ _ (sym e) j).1)
 
 pub line_end : (l c : ℕ) (s : List ℕ) (f : Shape) (us vs : List Tok) → form_of (lex l c s) ≡ Ok (f, us) → end_of us ≡ Ok (tt, vs) → (d : ℕ) × (vs ≡ end l d (behind s) ∷ [])
@@ -58,16 +58,16 @@ line_sound l c (b ∷ bs) x e = says_step l c b bs (kind b) x (told b) (line_sou
 
 -- what is read as a form is the line
 form_step : (l c b : ℕ) (bs : List ℕ) (k : Kind) (x : Said) → (formed l (lex l (c + 1) bs) ≡ Ok x → line_of l (c + 1) bs ≡ Ok x) → formed l (by_kind k l c b bs (lex l (c + 1) bs)) ≡ Ok x → start k (line_of l (c + 1) bs) (formed l (by_kind k l c b bs (lex l (c + 1) bs))) ≡ Ok x
-form_step l c b bs LineEnd x ih e = never_ok _ _ e
+form_step l c b bs LineEnd x ih e = cc
 form_step l c b bs Space x ih e = ih e
 form_step l c b bs Open x ih e = e
 form_step l c b bs Close x ih e = e
-form_step l c b bs Semicolon x ih e = never_ok _ _ e
+form_step l c b bs Semicolon x ih e = cc
 form_step l c b bs Letter x ih e = e
 form_step l c b bs Other x ih e = e
 
 form_line : (l c : ℕ) (s : List ℕ) (x : Said) → formed l (lex l c s) ≡ Ok x → line_of l c s ≡ Ok x
-form_line l c [] x e = never_ok _ _ e
+form_line l c [] x e = cc
 form_line l c (b ∷ bs) x e = form_step l c b bs (kind b) x (form_line l (c + 1) bs x) e
 
 nothing_line : (l c : ℕ) (t : List ℕ) → next t ≡ LineEnd → line_of l c t ≡ Ok blank

@@ -12,20 +12,11 @@ use Rattle.forms.specs.Shapes.{Shape, is_house}
 use Rattle.grammar.specs.Grammar.{Located, Said, blank, states, Says}
 use Rattle.grammar.specs.Reading.{line_of, later, stray, fits, before, on_line, read_lines, read_of}
 use Rattle.grammar.specs.Sheets.{longest, ahead, lines, Holds, InOrder, some, Reads, Flawed, Unread}
+use Rattle.grammar.proofs.Fields.{ok_same}
 use Rattle.grammar.proofs.Saying.{line_sound, line_complete}
-
--- an answer is one or the other
-pub ok_or_err : {A B E : Type 0} (x : A) (e : E) → ◌≡◌ {A = Result A E} (Ok x) (Err e) → B
-ok_or_err x e h = let z : ◌≡◌ {A = ℕ} 0 1 = cc in absurd (omega arith)
-
-ok_one : {A E : Type 0} (x y : A) → ◌≡◌ {A = Result A E} (Ok x) (Ok y) → x ≡ y
-ok_one x y h = cc
 
 err_one : {A E : Type 0} (x y : E) → ◌≡◌ {A = Result A E} (Err x) (Err y) → x ≡ y
 err_one x y h = cc
-
-both : {A : Type 0} (b : Bool) → b ≡ true → b ≡ false → A
-both b t f = let z : ◌≡◌ {A = ℕ} 0 1 = sym (ap (λ x. cond x 0 1) t) ∙ ap (λ x. cond x 0 1) f in absurd (omega arith)
 
 -- the lines are the fronts of what stands from the start of each on
 pub lines_are : (s : List ℕ) → lines s ≡ map front (s ∷ later s)
@@ -47,7 +38,7 @@ not_fits true f e = go (is_house f) refl e
   where
     go : (h : Bool) → is_house f ≡ h → cond h false true ≡ false → is_house f ≡ true
     go true i e = i
-    go false i e = both true refl e
+    go false i e = cc
 
 fits_later : (f : Shape) → is_house f ≡ false → fits true f ≡ true
 fits_later f e = cond-false _ _ _ e
@@ -56,7 +47,7 @@ later_fits : (f : Shape) → fits true f ≡ true → is_house f ≡ false
 later_fits f e = go (is_house f) refl e
   where
     go : (h : Bool) → is_house f ≡ h → cond h false true ≡ true → is_house f ≡ false
-    go true i e = both false e refl
+    go true i e = cc
     go false i e = i
 
 -- these forms may stand behind others, or where there are none
@@ -94,11 +85,11 @@ also_true [] = refl
 also_true (x ∷ xs) = refl
 
 before_ok : (x : Located) (r : Result (List Located) Fault) (fs : List Located) → before (x ∷ []) r ≡ Ok fs → (gs : List Located) × (r ≡ Ok gs) × (x ∷ gs ≡ fs)
-before_ok x (Ok gs) fs e = (gs, refl, ok_one _ _ e)
-before_ok x (Err f) fs e = ok_or_err fs f (sym e)
+before_ok x (Ok gs) fs e = (gs, refl, ok_same _ _ e)
+before_ok x (Err f) fs e = cc
 
 before_err : (x : Located) (r : Result (List Located) Fault) (f : Fault) → before (x ∷ []) r ≡ Err f → r ≡ Err f
-before_err x (Ok gs) f e = ok_or_err _ f e
+before_err x (Ok gs) f e = cc
 before_err x (Err g) f e = e
 
 -- the lines behind a line
@@ -110,17 +101,17 @@ abbrev Held : ℕ → Bool → List (List ℕ) → List Located → Type 0
 Held n b ss fs = Holds n (map front ss) fs × Fine b fs × (also b fs ≡ true)
 
 read_holds : (n : ℕ) (b : Bool) (ss : List (List ℕ)) (fs : List Located) → read_lines n b ss ≡ Ok fs → Held n b ss fs
-read_holds n true [] fs e = subst (λ l. Holds n [] l × Fine true l × (also true l ≡ true)) (ok_one _ _ e) (Holds.none, tt, refl)
-read_holds n false [] fs e = ok_or_err fs _ (sym e)
+read_holds n true [] fs e = subst (λ l. Holds n [] l × Fine true l × (also true l ≡ true)) (ok_same _ _ e) (Holds.none, tt, refl)
+read_holds n false [] fs e = cc
 read_holds n b (s ∷ ss) fs e = go (λ c gs. read_holds (n + 1) c ss gs) (line_of n 1 s) refl e
   where
     go : ((c : Bool) (gs : List Located) → read_lines (n + 1) c ss ≡ Ok gs → Held (n + 1) c ss gs) → (r : Result Said Trouble) → line_of n 1 s ≡ r → on_line n b r (Rest n ss) ≡ Ok fs → Held n b (s ∷ ss) fs
-    go ih (Err t) i e = ok_or_err fs _ (sym e)
+    go ih (Err t) i e = cc
     go ih (Ok blank) i e = let h = ih b fs e in (Holds.empty (line_sound n 1 s blank i) h.0, h.1, h.2)
     go ih (Ok (states x)) i e = last (fits b x.shape) refl e
       where
         last : (t : Bool) → fits b x.shape ≡ t → cond t (before (x ∷ []) (Rest n ss true)) (Err (faults.House n (stray b))) ≡ Ok fs → Held n b (s ∷ ss) fs
-        last false q e = ok_or_err fs _ (sym e)
+        last false q e = cc
         last true q e =
             let p = before_ok x (Rest n ss true) fs e in
             let h = ih true p.0 p.1 in
@@ -128,7 +119,7 @@ read_holds n b (s ∷ ss) fs e = go (λ c gs. read_holds (n + 1) c ss gs) (line_
 
 holds_read : (n : ℕ) (b : Bool) (ss : List (List ℕ)) (fs : List Located) → Holds n (map front ss) fs → Fine b fs → also b fs ≡ true → read_lines n b ss ≡ Ok fs
 holds_read n true [] fs Holds.none g h = refl
-holds_read n false [] fs Holds.none g h = both false h refl
+holds_read n false [] fs Holds.none g h = cc
 holds_read n b (s ∷ ss) fs (Holds.empty a p) g h = ap (λ r. on_line n b r (Rest n ss)) (line_complete n 1 s blank a) ∙ holds_read (n + 1) b ss fs p g h
 holds_read n b (s ∷ ss) fs (Holds.form {f = x} {fs = gs} a p) g h =
     ap (λ r. on_line n b r (Rest n ss)) (line_complete n 1 s (states x) a) ∙ cond-true _ _ _ g.0 ∙ ap (before (x ∷ [])) (holds_read (n + 1) true ss gs p g.1 (also_true gs))
@@ -144,12 +135,12 @@ abbrev Failed : ℕ → Bool → List (List ℕ) → Fault → Type 0
 Failed n b ss f = Fails b n (map front ss) (fault.number_of f) (fault.line_of f)
 
 read_fails : (n : ℕ) (b : Bool) (ss : List (List ℕ)) (f : Fault) → read_lines n b ss ≡ Err f → Failed n b ss f
-read_fails n true [] f e = ok_or_err _ f e
+read_fails n true [] f e = cc
 read_fails n false [] f e = subst (Failed n false []) (err_one _ _ e) none
 read_fails n b (s ∷ ss) f e = go (λ c g. read_fails (n + 1) c ss g) (line_of n 1 s) refl e
   where
     go : ((c : Bool) (g : Fault) → read_lines (n + 1) c ss ≡ Err g → Failed (n + 1) c ss g) → (r : Result Said Trouble) → line_of n 1 s ≡ r → on_line n b r (Rest n ss) ≡ Err f → Failed n b (s ∷ ss) f
-    go ih (Err t) i e = subst (Failed n b (s ∷ ss)) (err_one _ _ e) (here (Flawed.outside (λ x a. ok_or_err x t (sym (line_complete n 1 s x a) ∙ i))))
+    go ih (Err t) i e = subst (Failed n b (s ∷ ss)) (err_one _ _ e) (here (Flawed.outside (λ x a. let h = line_complete n 1 s x a in cc)))
     go ih (Ok blank) i e = past (line_sound n 1 s blank i) (ih b f e)
     go ih (Ok (states x)) i e = last (fits b x.shape) refl e
       where
@@ -207,7 +198,7 @@ fails_cut {b} {n} {k} {m} (past {s = s} {ss = ss} a p) = go (fails_cut p)
 fails_cut {b} {n} {k} {m} (suits {s = s} {ss = ss} {f = x} a h p) = go (fails_cut p)
   where
     go : Cut true (n + 1) ss k m ⊎ Formless true (n + 1) ss k m → Cut b n (s ∷ ss) k m ⊎ Formless b n (s ∷ ss) k m
-    go (inr (e, q, i, j)) = both true refl e
+    go (inr (e, q, i, j)) = cc
     go (inl c) =
         let e : n + 1 + length c.front ≡ n + length (s ∷ c.front) = omega arith in
         inl (record { fs = x ∷ c.fs; front = s ∷ c.front; line = c.line; back = c.back; parts = ap (λ l. s ∷ l) c.parts; held = Holds.form a c.held; good = (h, c.good); flaw = subst₂ (λ t i. Flawed t i c.line k) (also_true c.fs) e c.flaw; at = c.at ∙ e })
@@ -224,7 +215,7 @@ cut_fails {n} {k} b l back (Holds.form {s = s} {ss = ss} {fs = fs} a p) i w =
 formless_fails : {n : ℕ} {ls : List (List ℕ)} {fs : List Located} → Holds n ls fs → fs ≡ [] → Fails false n ls 22 1
 formless_fails Holds.none e = none
 formless_fails (Holds.empty a p) e = past a (formless_fails p e)
-formless_fails (Holds.form {f = x} {fs = fs} a p) e = let z : ◌≡◌ {A = ℕ} 1 0 = ap (λ l. cond (some l) 1 0) e in absurd (omega arith)
+formless_fails (Holds.form {f = x} {fs = fs} a p) e = cc
 
 -- the sheet is read, or not, by its length first
 pub whole : (s : List ℕ) → length s ≤ longest → read_of s ≡ read_lines 1 false (s ∷ later s)
@@ -235,7 +226,7 @@ pub read_sound : (s : List ℕ) (fs : List Located) → read_of s ≡ Ok fs → 
 read_sound s fs e = go (ltb longest (length s)) refl e
   where
     go : (t : Bool) → ltb longest (length s) ≡ t → cond t (Err faults.TooLong) (read_lines 1 false (s ∷ later s)) ≡ Ok fs → Reads s fs
-    go true i e = ok_or_err fs _ (sym e)
+    go true i e = cc
     go false i e =
         let h = read_holds 1 false (s ∷ later s) fs e in
         record { short = ltb-false longest (length s) i; holds = subst (λ l. Holds 1 l fs) (sym (lines_are s)) h.0; order = ordered fs h.1; has = also_some fs ∙ h.2 }

@@ -1,15 +1,10 @@
 -- A list, item by item.
-use Rattle.std.proofs.Common.{◌≡◌, ℕ, zero, suc, ◌<◌, List, [], ◌∷◌, ◌++◌, length, ℤ, Some, None, Ok, Err, Option, refl, ap, ◌∙◌, append_assoc, arith}
+use Rattle.std.proofs.Common.{◌≡◌, ℕ, zero, suc, ◌<◌, List, [], ◌∷◌, ◌++◌, length, true, Some, None, Ok, Err, Option, sym, refl, ap, ◌∙◌, append_assoc, arith}
+use Rattle.std.specs.Option.{is_some}
 use Rattle.words.specs.Tokens.{Tok}
-use Rattle.market.specs.declared.names.Edge.{Edge}
 use Rattle.forms.specs.declared.trouble.Trouble.{Trouble}
-use Rattle.parse.specs.Parser.{Read, then, onto, more, up_to, items_of, begin_of, legs_of, sizes_of, next_leg_of, size_of, close_of, finish_of, form_of}
-use Rattle.forms.specs.Shapes.{net, quote}
+use Rattle.parse.specs.Parser.{Read, then, onto, more, up_to, items_of}
 use Rattle.parse.specs.View.{asked}
-
-pub onto_none : {A : Type 0} (r : Read (List A)) → onto [] r ≡ r
-onto_none (Err t) = refl
-onto_none (Ok x) = refl
 
 pub onto_more : {A : Type 0} (xs : List A) (x : A) (r : Read (List A)) → onto (xs ++ x ∷ []) r ≡ onto xs (onto (x ∷ []) r)
 onto_more xs x (Err t) = refl
@@ -39,19 +34,12 @@ items_more next takes ts us x e =
     let l = takes ts us x e in
     ap (λ r. then r (λ o vs. more o vs (up_to next (length ts)))) e ∙ ap (onto (x ∷ [])) (enough next takes (length ts) (suc (length us)) us l (omega arith))
 
-pub items_all : {A : Type 0} (next : List Tok → Read (Option A)) (ts us : List Tok) → next ts ≡ Ok (None, us) → items_of next ts ≡ Ok ([], us)
-items_all next ts us e = ap (λ r. then r (λ o vs. more o vs (up_to next (length ts)))) e
+-- an item that is passed over
+pub passed : {A : Type 0} (next : List Tok → Read (Option A)) → Takes next → (ts us : List Tok) (o : Option A) → next ts ≡ Ok (o, us) → true ≡ is_some o → asked (items_of next us) ≡ asked (items_of next ts)
+passed next takes ts us None e h = cc
+passed next takes ts us (Some x) e h = sym (ap asked (items_more next takes ts us x e) ∙ asked_onto (x ∷ []) (items_of next us))
 
-pub items_trouble : {A : Type 0} (next : List Tok → Read (Option A)) (ts : List Tok) (t : Trouble) → next ts ≡ Err t → items_of next ts ≡ Err t
-items_trouble next ts t e = ap (λ r. then r (λ o vs. more o vs (up_to next (length ts)))) e
-
-asked_trouble : {A : Type 0} (r : Read A) (t : Trouble) → asked r ≡ Err t → r ≡ Err t
+-- trouble among the items that are passed over
+pub asked_trouble : {A : Type 0} (r : Read A) (t : Trouble) → asked r ≡ Err t → r ≡ Err t
 asked_trouble (Err u) t e = cc
-asked_trouble (Ok x) t e = let z : ◌≡◌ {A = ℕ} 0 1 = cc in absurd (omega arith)
-
--- trouble in the list of legs, or of sizes
-pub legs_trouble : (ts us : List Tok) (n : ℤ) (t : Trouble) → begin_of ts ≡ Ok (legs_of n, us) → asked (items_of next_leg_of us) ≡ Err t → form_of ts ≡ Err t
-legs_trouble ts us n t e h = ap (λ r. then r finish_of) e ∙ ap (λ r. then r (λ ls vs. Ok (net n ls, vs))) (asked_trouble (items_of next_leg_of us) t h)
-
-pub sizes_trouble : (ts us : List Tok) (l : ℤ) (e : Edge) (p : ℤ) (t : Trouble) → begin_of ts ≡ Ok (sizes_of l e p, us) → asked (items_of size_of us) ≡ Err t → form_of ts ≡ Err t
-sizes_trouble ts us l e p t is h = ap (λ r. then r finish_of) is ∙ ap (λ r. then r (λ ns vs. then (close_of vs) (λ _ ws. Ok (quote l e p ns, ws)))) (asked_trouble (items_of size_of us) t h)
+asked_trouble (Ok x) t e = absurd (cc)

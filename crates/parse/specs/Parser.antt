@@ -14,8 +14,8 @@ use Rattle.words.specs.Place.{Placed}
 use Rattle.market.specs.declared.names.Edge.{Edge}
 use Rattle.market.specs.declared.names.Edge.TheVariants.{Bid, Offer}
 use Rattle.market.specs.declared.names.Leg.{Leg}
-use Rattle.parse.specs.declared.names.Kind.{Kind}
-use Rattle.parse.specs.declared.names.Kind.TheVariants as kinds
+use Rattle.market.specs.declared.names.Kind.{Kind}
+use Rattle.market.specs.declared.names.Kind.TheVariants as kinds
 use Rattle.parse.specs.declared.names.Name.{Name}
 use Rattle.parse.specs.declared.names.Name.TheVariants as names
 use Rattle.forms.specs.declared.form.Response.{Response}

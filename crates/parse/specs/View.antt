@@ -5,9 +5,10 @@ use Rattle.words.specs.View as words
 use Rattle.parse.specs.declared.names.Begun.{Begun}
 use Rattle.parse.specs.declared.names.Begun.TheVariants.{Whole, Net, Quote}
 use Rattle.parse.specs.declared.reader.Reader.{Reader}
-use Rattle.parse.specs.declared.trouble.FormError.{FormError}
-use Rattle.parse.specs.declared.trouble.FormError.TheVariants as error
+use Rattle.parse.specs.declared.trouble.Failed.{Failed}
+use Rattle.parse.specs.declared.trouble.Failed.TheVariants as failed
 use Rattle.parse.specs.Parser.{Read, Beginning, whole, legs_of, sizes_of}
+use Rattle.forms.specs.declared.trouble.Trouble.{Trouble}
 use Rattle.forms.specs.Shapes.{Shape, shape, is_house}
 
 -- the tokens from here to the end of the line
@@ -20,10 +21,10 @@ begun (Net n) = legs_of n
 begun (Quote l e p) = sizes_of l e p
 
 -- what a method that allocates gave, and the tokens that it left; want of memory says nothing of the sheet
-abbrev pub Built : {A B : Type 0} → (A → B) → Result A FormError → Read B → List Tok → Type 0
+abbrev pub Built : {A B : Type 0} → (A → B) → Result A (Failed Trouble) → Read B → List Tok → Type 0
 Built f (Ok x) all left = all ≡ Ok (f x, left)
-Built f (Err (error.Trouble t)) all left = all ≡ Err t
-Built f (Err error.Memory) all left = Unit {0}
+Built f (Err (failed.Fault t)) all left = all ≡ Err t
+Built f (Err failed.Memory) all left = Unit {0}
 
 -- whether something was read, without what it was
 abbrev pub asked : {A : Type 0} → Read A → Read (Unit {0})

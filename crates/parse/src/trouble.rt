@@ -1,40 +1,43 @@
 // Why a form is not read.
 ghost use Rattle.std.specs.Prelude.{◌≡◌};
-ghost use Rattle.parse.specs.declared.trouble.FormError.TheVariants as error;
+ghost use Rattle.parse.specs.declared.trouble.Failed.TheVariants as failed;
 ghost use Rattle.parse.specs.Troubles.{mark, trouble_at};
 
 use forms::trouble::{Expected, Found, Trouble};
 use std::alloc::{AllocError, AllocFailed};
 use words::token::Token;
 
-// Why no form was made.
+// Why nothing was read: a fault in what stands there, or want of memory.
 #[derive(Clone, Copy)]
-pub enum FormError {
-    Trouble(Trouble),
+pub enum Failed<E> {
+    Fault(E),
     Memory,
 }
 
-impl From<Trouble> for FormError {
-    ghost from_gives = { λ t e. e ≡ error.Trouble t };
+// Why no form was made.
+pub type FormError = Failed<Trouble>;
 
-    fn from(t: Trouble) -> FormError {
-        FormError::Trouble(t)
+impl From<Trouble> for Failed<Trouble> {
+    ghost from_gives = { λ t e. e ≡ failed.Fault t };
+
+    fn from(t: Trouble) -> Self {
+        Failed::Fault(t)
     }
 }
 
-impl From<AllocError> for FormError {
-    ghost from_gives = { λ _ e. e ≡ error.Memory };
+impl<E> From<AllocError> for Failed<E> {
+    ghost from_gives = { λ _ e. e ≡ failed.Memory };
 
-    fn from(_e: AllocError) -> FormError {
-        FormError::Memory
+    fn from(_e: AllocError) -> Self {
+        Failed::Memory
     }
 }
 
-impl<T: Drop> From<AllocFailed<T>> for FormError {
-    ghost from_gives = { λ _ e. e ≡ error.Memory };
+impl<E, T: Drop> From<AllocFailed<T>> for Failed<E> {
+    ghost from_gives = { λ _ e. e ≡ failed.Memory };
 
-    fn from(_e: AllocFailed<T>) -> FormError {
-        FormError::Memory
+    fn from(_e: AllocFailed<T>) -> Self {
+        Failed::Memory
     }
 }
 

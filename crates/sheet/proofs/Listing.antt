@@ -1,15 +1,11 @@
 -- A listing, form by form, and the text of a refusal.
-use Rattle.std.proofs.Common.{◌≡◌, ℕ, List, [], ◌∷◌, ◌++◌, IfOk, Ok, Err, string_bytes, codes, decimal, Result, String, sym, refl, ap, ◌∙◌, subst, append_assoc}
+use Rattle.std.proofs.Common.{◌≡◌, ℕ, List, [], ◌∷◌, ◌++◌, IfOk, Ok, Err, string_bytes, codes, Result, String, sym, refl, ap, ◌∙◌, subst, append_assoc}
 use Rattle.std.specs.declared.alloc.Global.{Global}
 use Rattle.std.specs.declared.alloc.AllocError.{AllocError}
-use Rattle.forms.specs.declared.fault.Fault.{Fault}
-use Rattle.forms.specs.Faults.{number_of, line_of}
-use Rattle.forms.specs.Texts.{fault_text}
 use Rattle.forms.specs.Spelled.{spelling}
 use Rattle.grammar.specs.Grammar.{Located}
 use Rattle.grammar.specs.Listing.{listing, Retold}
 use Rattle.grammar.proofs.Retelling.{retold}
-use Rattle.sheet.specs.Reports.{refusal}
 
 pub listing_more : (xs : List Located) (x : Located) → listing xs ++ (spelling x.shape ++ codes "\n") ≡ listing (xs ++ x ∷ [])
 listing_more [] x = refl
@@ -22,7 +18,3 @@ made_more (Err x) h p = tt
 
 pub spelled : (fs : List Located) (t : List ℕ) → t ≡ listing fs → (t ≡ listing fs) × Retold fs t
 spelled fs t e = (e, subst (Retold fs) (sym e) (retold fs))
-
-pub unread_is : (f : Fault) (n l : ℕ) (r : Result (String Global) AllocError) → n ≡ number_of f → l ≡ line_of f → IfOk r (λ t. string_bytes t ≡ codes "(unread " ++ (decimal n ++ (codes " " ++ (decimal l ++ (codes ")\n; " ++ (fault_text f ++ codes "\n")))))) → IfOk r (λ t. string_bytes t ≡ refusal f)
-unread_is f n l (Ok t) i j e = e ∙ (λ k. codes "(unread " ++ (decimal (i k) ++ (codes " " ++ (decimal (j k) ++ (codes ")\n; " ++ (fault_text f ++ codes "\n"))))))
-unread_is f n l (Err x) i j e = tt

@@ -1,7 +1,6 @@
 -- A whole sheet, line by line.
-use Rattle.std.proofs.Common.{◌≡◌, ℕ, ◌+◌, ◌<◌, ◌≤◌, Bool, true, false, cond, not, eqb, List, [], ◌∷◌, ◌++◌, map, length, take, drop, Ok, Err, Result, sym, refl, ap, ◌∙◌, subst, append_assoc, append-nil, arith}
-use mathlib.Core.Bool.{beq}
-use Rattle.std.proofs.lemmas.List.{map-append, take_all}
+use Rattle.std.proofs.Common.{◌≡◌, ℕ, ◌+◌, ◌<◌, ◌≤◌, Bool, true, false, not, eqb, List, [], ◌∷◌, map, length, take, drop, Ok, Err, Result, sym, refl, ap, ◌∙◌, subst, append-nil, arith}
+use Rattle.std.proofs.lemmas.List.{take_all}
 use Rattle.std.proofs.lemmas.Bool.{cond-true, cond-false, cond_both, ne_eqb}
 use Rattle.words.specs.Bytes.{behind}
 use Rattle.words.specs.Place.{Onto}
@@ -9,34 +8,28 @@ use Rattle.words.specs.View.{rest}
 use Rattle.forms.specs.declared.fault.Fault.{Fault}
 use Rattle.forms.specs.declared.fault.Fault.TheVariants as faults
 use Rattle.forms.specs.declared.fault.Stray.TheVariants as strays
-use Rattle.forms.specs.declared.trouble.Trouble.{Trouble}
 use Rattle.forms.specs.Faults.{number_of}
 use Rattle.forms.specs.Faults as fault
-use Rattle.forms.specs.Shapes.{Shape, is_house}
 use Rattle.parse.specs.declared.reader.Reader.{Reader}
 use Rattle.grammar.specs.Grammar as grammar
 use Rattle.grammar.specs.Grammar.{Said, states}
-use Rattle.grammar.specs.Reading.{line_of, later, fits, before, on_line, read_lines, read_of, accepted, verdict_of}
+use Rattle.grammar.specs.Reading.{line_of, later, on_line, read_lines, read_of, accepted, verdict_of}
 use Rattle.grammar.specs.Sheets.{longest, some, Reads}
-use Rattle.grammar.proofs.Fields.{ok_same}
 use Rattle.grammar.proofs.Parts.{reads_parts}
-use Rattle.grammar.proofs.Sheets.{ok_or_err, whole, read_sound, read_complete, fault_sound, fault_complete}
+use Rattle.grammar.proofs.Sheets.{whole, read_sound, read_complete, fault_sound, fault_complete}
 use Rattle.sheet.specs.declared.located.Located.{Located}
-use Rattle.sheet.specs.declared.located.ReadError.{ReadError}
-use Rattle.sheet.specs.declared.located.ReadError.TheVariants as error
-use Rattle.sheet.specs.Lines.{located, line_here, found, Following, SameLine, LineJudged, LineNoted}
+use Rattle.parse.specs.declared.trouble.Failed.{Failed}
+use Rattle.parse.specs.declared.trouble.Failed.TheVariants as failed
+use Rattle.sheet.specs.Lines.{located, line_here, found, SameLine, LineJudged, LineNoted}
 use Rattle.sheet.specs.Promises.{Accepted, Refused, Exactly, Verdict, ReadOnce, ReadAs}
-
-heads : {b c : ℕ} {s t : List ℕ} → b ∷ s ≡ c ∷ t → s ≡ t
-heads e = cc
 
 -- the line that follows
 pub later_next : (s t : List ℕ) → behind s ≡ 10 ∷ t → later s ≡ t ∷ later t
-later_next [] t e = let z : ◌≡◌ {A = ℕ} 0 1 = ap (λ l. cond (some l) 1 0) e in absurd (omega arith)
+later_next [] t e = cc
 later_next (b ∷ bs) t e = go (λ h. later_next bs t h) (eqb b 10) refl
   where
     go : (behind bs ≡ 10 ∷ t → later bs ≡ t ∷ later t) → (x : Bool) → eqb b 10 ≡ x → later (b ∷ bs) ≡ t ∷ later t
-    go ih true i = cond-true _ _ _ i ∙ ap (λ l. l ∷ later l) (heads (sym (cond-true (eqb b 10) (b ∷ bs) (behind bs) i) ∙ e))
+    go ih true i = let h = cond-true (eqb b 10) (b ∷ bs) (behind bs) i in cond-true _ _ _ i ∙ ap (λ l. l ∷ later l) cc
     go ih false i = cond-false _ _ _ i ∙ ih (sym (cond-false (eqb b 10) (b ∷ bs) (behind bs) i) ∙ e)
 
 pub later_none : (s : List ℕ) → behind s ≡ [] → later s ≡ []
@@ -44,7 +37,7 @@ later_none [] e = refl
 later_none (b ∷ bs) e = go (λ h. later_none bs h) (eqb b 10) refl
   where
     go : (behind bs ≡ [] → later bs ≡ []) → (x : Bool) → eqb b 10 ≡ x → later (b ∷ bs) ≡ []
-    go ih true i = let z : ◌≡◌ {A = ℕ} 1 0 = ap (λ l. cond (some l) 1 0) (sym (cond-true (eqb b 10) (b ∷ bs) (behind bs) i) ∙ e) in absurd (omega arith)
+    go ih true i = let h = cond-true (eqb b 10) (b ∷ bs) (behind bs) i in cc
     go ih false i = cond-false _ _ _ i ∙ ih (sym (cond-false (eqb b 10) (b ∷ bs) (behind bs) i) ∙ e)
 
 behind_short : (s : List ℕ) → length (behind s) ≤ length s
@@ -67,16 +60,13 @@ last o b tail = ap (read_lines (o.scan.line + 1) b) (later_none (rest o.scan) ta
 
 -- what the reader computes is what the grammar says
 pub accepted_is : (s : List ℕ) (fs : List grammar.Located) → read_of s ≡ Ok fs → Accepted s
-accepted_is s fs e = record { forms = fs; derived = read_sound s fs e; fair = λ k m u. let p = fault_complete s k m u in ok_or_err fs p.0 (sym e ∙ p.1) }
-
-same_fault : (f g : Fault) → ◌≡◌ {A = Result (List grammar.Located) Fault} (Err f) (Err g) → f ≡ g
-same_fault f g e = cc
+accepted_is s fs e = record { forms = fs; derived = read_sound s fs e; fair = λ k m u. let p = fault_complete s k m u in cc }
 
 pub refused_is : (s : List ℕ) (f : Fault) → read_of s ≡ Err f → Refused s f
 refused_is s f e = record {
   ground = fault_sound s f e;
-  only = λ k m u. let p = fault_complete s k m u in let i = same_fault p.0 f (sym p.1 ∙ e) in (sym p.2 ∙ ap number_of i, sym p.3 ∙ ap fault.line_of i);
-  underived = λ fs r. ok_or_err fs f (sym (read_complete s fs r) ∙ e);
+  only = λ k m u. let p = fault_complete s k m u in let i : p.0 ≡ f = cc in (sym p.2 ∙ ap number_of i, sym p.3 ∙ ap fault.line_of i);
+  underived = λ fs r. let h = read_complete s fs r in cc;
 }
 
 exact : (s : List ℕ) → Exactly s (verdict_of s)
@@ -90,47 +80,7 @@ pub verdict_is : (s : List ℕ) (r : Result (Unit {0}) Fault) → r ≡ verdict_
 verdict_is s r e = record { answer = e; exactly = subst (Exactly s) (sym e) (exact s) }
 
 pub reads_once : (s : List ℕ) (fs : List grammar.Located) → read_of s ≡ Ok fs → (gs : List grammar.Located) → Reads s gs → gs ≡ fs
-reads_once s fs e gs r = ok_same gs fs (sym (read_complete s gs r) ∙ e)
-
--- one form more
-pub found_more : (xs : List Located) (x : Located) (r : Result (List grammar.Located) Fault) → found (xs ++ x ∷ []) r ≡ found xs (before (located x ∷ []) r)
-found_more xs x (Err f) = refl
-found_more xs x (Ok fs) = ap Ok (ap (λ l. l ++ fs) (map-append located xs (x ∷ [])) ∙ append_assoc (map located xs) (located x ∷ []) fs)
-
-fits_from : (b : Bool) (f : Shape) → (is_house f ≡ b → ⊥) → fits b f ≡ true
-fits_from true f h = go (is_house f) refl
-  where
-    go : (x : Bool) → is_house f ≡ x → cond (is_house f) false true ≡ true
-    go true e = absurd (h e)
-    go false e = cond-false _ _ _ e
-fits_from false f h = go (is_house f) refl
-  where
-    go : (x : Bool) → is_house f ≡ x → is_house f ≡ true
-    go true e = e
-    go false e = absurd (h e)
-
-some_more : (xs : List Located) (x : Located) → some (xs ++ x ∷ []) ≡ true
-some_more [] x = refl
-some_more (y ∷ xs) x = refl
-
-pub noted : (xs ys : List Located) (x : Located) (l : ℕ) (r : Result Said Trouble) → ys ≡ xs ++ x ∷ [] → r ≡ Ok (states (located x)) → (is_house (located x).shape ≡ some xs → ⊥) → (k : Following) → found xs (on_line l (some xs) r k) ≡ found ys (k (some ys))
-noted xs ys x l r e i h k =
-    ap (λ q. found xs (on_line l (some xs) q k)) i ∙ ap (found xs) (cond-true _ _ _ (fits_from (some xs) (located x).shape h)) ∙ sym (found_more xs x (k true))
-    ∙ (λ j. found (sym e j) (k (sym (some_more xs x) j))) ∙ ap (λ zs. found ys (k (some zs))) (sym e)
-
-both : {A : Type 0} (b : Bool) → b ≡ true → b ≡ false → A
-both b t f = let z : ◌≡◌ {A = ℕ} 0 1 = sym (ap (λ x. cond x 0 1) t) ∙ ap (λ x. cond x 0 1) f in absurd (omega arith)
-
--- a form that is let through is no house form behind others, and no other form where there is none
-pub let_through : (xs : List Located) (h e a : Bool) (n : ℕ) → beq h (not e) ≡ false → h ≡ a → e ≡ eqb n 0 → n ≡ length xs → a ≡ some xs → ⊥
-let_through [] h e a n b i j k l =
-    let hh : h ≡ false = i ∙ l in
-    let ee : e ≡ true = j ∙ ap (λ m. eqb m 0) k in
-    both (beq h (not e)) (λ t. beq (hh t) (not (ee t))) b
-let_through (x ∷ xs) h e a n b i j k l =
-    let hh : h ≡ true = i ∙ l in
-    let ee : e ≡ false = j ∙ ne_eqb n 0 (λ z. omega arith) in
-    both (beq h (not e)) (λ t. beq (hh t) (not (ee t))) b
+reads_once s fs e gs r = let h = read_complete s gs r in cc
 
 some_length : (xs : List Located) (n : ℕ) → n ≡ length xs → some xs ≡ not (eqb n 0)
 some_length [] n e = sym (ap (λ m. not (eqb m 0)) e)
@@ -173,7 +123,7 @@ noting_first s r xs e short sheet at line column = record {
 pub judging_fault : (s : List ℕ) (o q : Reader) (b : Bool) (f : Fault) → Judging s o b → LineJudged (Err f) b o q → Err f ≡ verdict_of s
 judging_fault s o q b f h w = ap accepted (sym (turn o b (later (rest o.scan)) h.column ∙ w (λ c. read_lines (o.scan.line + 1) c (later (rest o.scan))))) ∙ h.left
 
-pub noting_fault : (s : List ℕ) (o q : Reader) (xs ys : List Located) (f : Fault) → Noting s o xs → LineNoted (Err (error.Fault f)) xs ys o q → read_of s ≡ Err f
+pub noting_fault : (s : List ℕ) (o q : Reader) (xs ys : List Located) (f : Fault) → Noting s o xs → LineNoted (Err (failed.Fault f)) xs ys o q → read_of s ≡ Err f
 noting_fault s o q xs ys f h w = sym h.left ∙ ap (found xs) (turn o (some xs) (later (rest o.scan)) h.column ∙ w (λ c. read_lines (o.scan.line + 1) c (later (rest o.scan))))
 
 -- a line without one
@@ -206,15 +156,15 @@ pub next_shorter : (o q : Reader) (t : List ℕ) → SameLine o q → behind (re
 next_shorter o q t w n = shorter (rest o.scan) t (sym w.tail ∙ n)
 
 -- what reading answers
-pub read_fault : (s : List ℕ) (f : Fault) → read_of s ≡ Err f → ReadAs s (Err (error.Fault f))
+pub read_fault : (s : List ℕ) (f : Fault) → read_of s ≡ Err f → ReadAs s (Err (failed.Fault f))
 read_fault s f e = (e, refused_is s f e)
 
 pub read_forms : (s : List ℕ) (fs : List grammar.Located) → read_of s ≡ Ok fs → ReadOnce s fs
 read_forms s fs e = let r = read_sound s fs e in record { answer = e; derived = r; only = reads_once s fs e; fair = (accepted_is s fs e).fair; parts = reads_parts s fs r }
 
-pub noting_stop : (s : List ℕ) (o q : Reader) (xs ys : List Located) (e : ReadError) → Noting s o xs → LineNoted (Err e) xs ys o q → ReadAs s (Err e)
-noting_stop s o q xs ys (error.Fault f) h w = read_fault s f (noting_fault s o q xs ys f h w)
-noting_stop s o q xs ys error.Memory h w = tt
+pub noting_stop : (s : List ℕ) (o q : Reader) (xs ys : List Located) (e : Failed Fault) → Noting s o xs → LineNoted (Err e) xs ys o q → ReadAs s (Err e)
+noting_stop s o q xs ys (failed.Fault f) h w = read_fault s f (noting_fault s o q xs ys f h w)
+noting_stop s o q xs ys failed.Memory h w = tt
 
 -- no form, or these
 pub noting_none : (s : List ℕ) (n : ℕ) (xs : List Located) → some xs ≡ false → found xs (read_lines n (some xs) []) ≡ read_of s → read_of s ≡ Err (faults.House 1 strays.Missing)

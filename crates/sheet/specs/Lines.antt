@@ -1,7 +1,5 @@
 -- One line of a sheet: what the code's answers stand for.
 use Rattle.std.specs.Prelude.{◌≡◌, ℕ, Bool, true, false, List, map, Some, None, Ok, Err, Option, Result}
-use Rattle.words.specs.declared.bytes.Kind.{Kind}
-use Rattle.words.specs.declared.bytes.Kind.TheVariants.{LineEnd, Space, Open, Close, Semicolon, Letter, Other}
 use Rattle.words.specs.Bytes.{behind}
 use Rattle.words.specs.View.{rest, words_in}
 use Rattle.forms.specs.declared.fault.Fault.{Fault}
@@ -9,18 +7,16 @@ use Rattle.forms.specs.declared.fault.Fault.TheVariants as faults
 use Rattle.forms.specs.declared.trouble.Trouble.{Trouble}
 use Rattle.forms.specs.Shapes.{shape, is_house}
 use Rattle.parse.specs.declared.reader.Reader.{Reader}
-use Rattle.parse.specs.declared.trouble.FormError.{FormError}
-use Rattle.parse.specs.declared.trouble.FormError.TheVariants as form
+use Rattle.parse.specs.declared.trouble.Failed.{Failed}
+use Rattle.parse.specs.declared.trouble.Failed.TheVariants as failed
 use Rattle.parse.specs.Parser.{seen}
 use Rattle.parse.specs.View.{tokens}
 use Rattle.grammar.specs.Grammar as grammar
 use Rattle.grammar.specs.Grammar.{Said, blank, states}
-use Rattle.grammar.specs.Reading.{line_of, on_line, accepted}
+use Rattle.grammar.specs.Reading.{formed, line_of, on_line, accepted}
 use Rattle.grammar.specs.Reading as reading
 use Rattle.grammar.specs.Sheets.{some}
 use Rattle.sheet.specs.declared.located.Located.{Located}
-use Rattle.sheet.specs.declared.located.ReadError.{ReadError}
-use Rattle.sheet.specs.declared.located.ReadError.TheVariants as error
 
 -- a form where it stands, as the grammar sees it
 abbrev pub located : Located → grammar.Located
@@ -30,20 +26,15 @@ located x = record { line = x.line; shape = shape x.form; words = words_in (toke
 abbrev pub line_here : Reader → Result Said Trouble
 line_here r = line_of r.scan.line r.scan.column (rest r.scan)
 
--- whether a line that goes on with this has no form
-abbrev pub blank_at : Kind → Bool
-blank_at LineEnd = true
-blank_at Space = false
-blank_at Open = false
-blank_at Close = false
-blank_at Semicolon = true
-blank_at Letter = false
-blank_at Other = false
-
 -- two readers stand on one line
 pub record SameLine (before after : Reader) : Type 0 where
   pub line : after.scan.line ≡ before.scan.line
   pub tail : behind (rest after.scan) ≡ behind (rest before.scan)
+
+-- spaces were passed over: the line has no form, or it says what the tokens from here on say
+abbrev pub LineBegun : Bool → Reader → Reader → Type 0
+LineBegun true before after = (line_here before ≡ Ok blank) × SameLine before after
+LineBegun false before after = (line_here before ≡ formed after.scan.line (tokens after)) × SameLine before after
 
 -- whether what a line says is a house form
 abbrev pub house_in : Said → Option Bool
@@ -60,9 +51,9 @@ LineChecked (Err t) before after = line_here before ≡ Err t
 LineChecked (Ok o) before after = (seen house_in (line_here before) ≡ Ok o) × SameLine before after
 
 -- the line was read
-abbrev pub LineRead : Result (Option Located) FormError → Reader → Reader → Type 0
-LineRead (Err (form.Trouble t)) before after = line_here before ≡ Err t
-LineRead (Err form.Memory) before after = Unit {0}
+abbrev pub LineRead : Result (Option Located) (Failed Trouble) → Reader → Reader → Type 0
+LineRead (Err (failed.Fault t)) before after = line_here before ≡ Err t
+LineRead (Err failed.Memory) before after = Unit {0}
 LineRead (Ok o) before after = (line_here before ≡ Ok (said_by o)) × SameLine before after
 
 -- the lines that follow, by whether forms stand before them
@@ -79,12 +70,12 @@ abbrev pub found : List Located → Result (List grammar.Located) Fault → Resu
 found xs r = reading.before (map located xs) r
 
 -- the line was noted: a fault, or what was found before it and in it
-abbrev pub LineNoted : Result (Unit {0}) ReadError → List Located → List Located → Reader → Reader → Type 0
-LineNoted (Err (error.Fault f)) xs ys before after = (k : Following) → on_line before.scan.line (some xs) (line_here before) k ≡ Err f
-LineNoted (Err error.Memory) xs ys before after = Unit {0}
+abbrev pub LineNoted : Result (Unit {0}) (Failed Fault) → List Located → List Located → Reader → Reader → Type 0
+LineNoted (Err (failed.Fault f)) xs ys before after = (k : Following) → on_line before.scan.line (some xs) (line_here before) k ≡ Err f
+LineNoted (Err failed.Memory) xs ys before after = Unit {0}
 LineNoted (Ok _) xs ys before after = ((k : Following) → found xs (on_line before.scan.line (some xs) (line_here before) k) ≡ found ys (k (some ys))) × SameLine before after
 
 -- why a line gives no form
-abbrev pub unread_line : FormError → ℕ → ReadError
-unread_line (form.Trouble t) l = error.Fault (faults.Outside l t)
-unread_line form.Memory l = error.Memory
+abbrev pub unread_line : Failed Trouble → ℕ → Failed Fault
+unread_line (failed.Fault t) l = failed.Fault (faults.Outside l t)
+unread_line failed.Memory l = failed.Memory

@@ -7,8 +7,8 @@ use Rattle.grammar.specs.Grammar.{Located}
 use Rattle.grammar.specs.Reading.{read_of, verdict_of}
 use Rattle.grammar.specs.Sheets.{Reads, Unread, Parts}
 use Rattle.sheet.specs.declared.located.Located.{Located as CodeLocated}
-use Rattle.sheet.specs.declared.located.ReadError.{ReadError}
-use Rattle.sheet.specs.declared.located.ReadError.TheVariants as error
+use Rattle.parse.specs.declared.trouble.Failed.{Failed}
+use Rattle.parse.specs.declared.trouble.Failed.TheVariants as failed
 use Rattle.sheet.specs.Lines.{located}
 
 -- The sheet is one that the grammar derives, and there is no ground to refuse it.
@@ -43,7 +43,7 @@ pub record ReadOnce (s : List ℕ) (fs : List Located) : Type 0 where
   pub parts : Parts s fs
 
 -- What reading a sheet gives; want of memory says nothing of the sheet.
-abbrev pub ReadAs : List ℕ → Result (Vec CodeLocated Global) ReadError → Type 0
+abbrev pub ReadAs : List ℕ → Result (Vec CodeLocated Global) (Failed Fault) → Type 0
 ReadAs s (Ok v) = ReadOnce s (map located (vec_items v))
-ReadAs s (Err (error.Fault f)) = (read_of s ≡ Err f) × Refused s f
-ReadAs s (Err error.Memory) = Unit {0}
+ReadAs s (Err (failed.Fault f)) = (read_of s ≡ Err f) × Refused s f
+ReadAs s (Err failed.Memory) = Unit {0}

@@ -1,6 +1,5 @@
 // Forms where they stand, and why a sheet gives none.
 ghost use Rattle.std.specs.Prelude.{◌≡◌};
-ghost use Rattle.sheet.specs.declared.located.ReadError.TheVariants as error;
 ghost use Rattle.words.specs.View.{words_in};
 ghost use Rattle.parse.specs.View.{tokens};
 ghost use Rattle.sheet.specs.Lines.{located};
@@ -8,7 +7,7 @@ ghost use Rattle.sheet.specs.Lines.{located};
 use forms::fault::Fault;
 use forms::form::Form;
 use parse::reader::Reader;
-use std::alloc::{AllocError, AllocFailed};
+use parse::trouble::Failed;
 
 // A form, the number of its line, and a reader before its words.
 #[derive(Drop)]
@@ -28,24 +27,4 @@ impl<'a> Located<'a> {
 }
 
 // Why a sheet is not read: its fault, or want of memory.
-#[derive(Clone, Copy)]
-pub enum ReadError {
-    Fault(Fault),
-    Memory,
-}
-
-impl From<AllocError> for ReadError {
-    ghost from_gives = { λ _ e. e ≡ error.Memory };
-
-    fn from(_e: AllocError) -> ReadError {
-        ReadError::Memory
-    }
-}
-
-impl<T: Drop> From<AllocFailed<T>> for ReadError {
-    ghost from_gives = { λ _ e. e ≡ error.Memory };
-
-    fn from(_e: AllocFailed<T>) -> ReadError {
-        ReadError::Memory
-    }
-}
+pub type ReadError = Failed<Fault>;

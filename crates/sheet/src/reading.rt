@@ -1,8 +1,9 @@
 // The verdict on a sheet, and its forms.
-ghost use Rattle.std.specs.Prelude.{◌≡◌, length, nat_lt};
+ghost use Rattle.std.specs.Prelude.{◌≡◌, cond, length, nat_lt, Ok, Err};
+ghost use mathlib.Core.Bool.{beq};
 ghost use Rattle.grammar.specs.Reading.{stray};
 ghost use Rattle.grammar.specs.Sheets.{longest};
-ghost use Rattle.sheet.specs.Lines.{blank_at, LineChecked, LineRead, LineJudged, LineNoted, unread_line};
+ghost use Rattle.sheet.specs.Lines.{LineBegun, LineChecked, LineRead, LineJudged, LineNoted, unread_line};
 ghost use Rattle.sheet.specs.Promises.{Verdict, ReadAs};
 
 use crate::located::{Located, ReadError};
@@ -16,6 +17,12 @@ use words::bytes::Kind;
 // The most bytes that a sheet has.
 pub const LONGEST: usize = 65536;
 
+// The fault of a sheet that has no form.
+const FORMLESS: Fault = Fault::House {
+    line: 1,
+    stray: Stray::Missing,
+};
+
 // Whether a sheet has too many bytes.
 fn too_long(sheet: &[u8]) -> bool
     ensures { result ≡ nat_lt longest (length sheet.now) }
@@ -23,21 +30,18 @@ fn too_long(sheet: &[u8]) -> bool
     sheet.len() > LONGEST
 }
 
-// Whether a line that goes on with this has no form: it ends there, or a comment begins.
-fn is_blank(kind: Kind) -> bool
-    ensures { result ≡ blank_at kind }
+// Moves past spaces, and tells whether the line has no form: it ends there, or a comment begins.
+fn is_blank(reader: &mut Reader) -> bool
+    ensures { LineBegun result reader.old reader.new }
 {
-    match kind {
-        Kind::LineEnd | Kind::Semicolon => true,
-        _ => false,
-    }
+    matches!(reader.spaces(), Kind::LineEnd | Kind::Semicolon)
 }
 
 // Passes over a line: nothing, or whether its form is a house form.
 fn check_line(reader: &mut Reader) -> Result<Option<bool>, Trouble>
     ensures { LineChecked result reader.old reader.new }
 {
-    if is_blank(reader.spaces()) {
+    if is_blank(reader) {
         return Ok(None);
     }
     let house = reader.check_form()?;
@@ -46,10 +50,12 @@ fn check_line(reader: &mut Reader) -> Result<Option<bool>, Trouble>
 }
 
 // What a line says: nothing, or a form.
+// By hand, beside `check_line`, as `note_line` beside `judge_line` and `read` beside `verdict`: judging needs no memory,
+// and a trait for what is kept of a form, with its laws, would be longer than what each pair shares.
 fn read_line<'a>(reader: &mut Reader<'a>, heap: Global) -> Result<Option<Located<'a>>, FormError>
     ensures { LineRead result reader.old reader.new }
 {
-    if is_blank(reader.spaces()) {
+    if is_blank(reader) {
         return Ok(None);
     }
     let start = *reader;
@@ -59,11 +65,16 @@ fn read_line<'a>(reader: &mut Reader<'a>, heap: Global) -> Result<Option<Located
     Ok(Some(Located { line, form, start }))
 }
 
-// What is wrong with the place of a form, where forms stand before it or none does.
-fn stray_form(forms: bool) -> Stray
-    ensures { result ≡ stray forms }
+// Whether a house form, or another, may stand on this line, where forms stand before it or none does.
+fn in_place(house: bool, forms: bool, line: u32) -> Result<(), Fault>
+    ensures { result ≡ cond (beq house forms) (Err (Fault.House line (stray forms))) (Ok tt) }
 {
-    if forms { Stray::Again } else { Stray::Late }
+    if house == forms {
+        let stray = if forms { Stray::Again } else { Stray::Late };
+        Err(Fault::House { line, stray })
+    } else {
+        Ok(())
+    }
 }
 
 // Judges a line, where forms stand before it or none does; tells whether forms stand before the next.
@@ -71,18 +82,12 @@ fn judge_line(reader: &mut Reader, forms: bool) -> Result<bool, Fault>
     ensures { LineJudged result forms reader.old reader.new }
 {
     let line = reader.line_number();
-    match check_line(reader) {
-        Err(trouble) => Err(Fault::Outside { line, trouble }),
-        Ok(None) => Ok(forms),
-        Ok(Some(house)) => {
-            if house == forms {
-                let stray = stray_form(forms);
-                Err(Fault::House { line, stray })
-            } else {
-                Ok(true)
-            }
-        }
-    }
+    let said = check_line(reader).map_err(|trouble| Fault::Outside { line, trouble })?;
+    let Some(house) = said else {
+        return Ok(forms);
+    };
+    in_place(house, forms, line)?;
+    Ok(true)
 }
 
 // Adds what a line says to the forms that stand before it.
@@ -94,18 +99,11 @@ fn note_line<'a>(
     ensures { LineNoted result found.old.items found.new.items reader.old reader.new }
 {
     let line = reader.line_number();
-    let said = match read_line(reader, heap) {
-        Ok(said) => said,
-        Err(error) => return Err(unread(error, line)),
-    };
+    let said = read_line(reader, heap).map_err(|error| unread(error, line))?;
     let Some(form) = said else {
         return Ok(());
     };
-    let forms = !found.is_empty();
-    if form.form.is_house() == forms {
-        let stray = stray_form(forms);
-        return Err(ReadError::Fault(Fault::House { line, stray }));
-    }
+    in_place(form.form.is_house(), !found.is_empty(), line).map_err(ReadError::Fault)?;
     found.push(form)?;
     Ok(())
 }
@@ -115,7 +113,7 @@ fn unread(error: FormError, line: u32) -> ReadError
     ensures { result ≡ unread_line error line }
 {
     match error {
-        FormError::Trouble(trouble) => ReadError::Fault(Fault::Outside { line, trouble }),
+        FormError::Fault(trouble) => ReadError::Fault(Fault::Outside { line, trouble }),
         FormError::Memory => ReadError::Memory,
     }
 }
@@ -135,14 +133,7 @@ pub fn verdict(sheet: &[u8]) -> Result<(), Fault>
             break;
         }
     }
-    if forms {
-        Ok(())
-    } else {
-        Err(Fault::House {
-            line: 1,
-            stray: Stray::Missing,
-        })
-    }
+    if forms { Ok(()) } else { Err(FORMLESS) }
 }
 
 // The forms of a sheet, or its fault, or want of memory.
@@ -161,10 +152,7 @@ pub fn read(heap: Global, sheet: &[u8]) -> Result<Vec<Located<'_>>, ReadError>
         }
     }
     if found.is_empty() {
-        return Err(ReadError::Fault(Fault::House {
-            line: 1,
-            stray: Stray::Missing,
-        }));
+        return Err(ReadError::Fault(FORMLESS));
     }
     Ok(found)
 }

@@ -54,9 +54,7 @@ pub fn report(heap: Global, sheet: &[u8]) -> Result<String, AllocError>
     }
     match read(heap, sheet) {
         Ok(forms) => spell(heap, forms.as_slice()),
-        Err(error) => match error {
-            ReadError::Fault(fault) => unread(heap, fault),
-            ReadError::Memory => Err(AllocError),
-        },
+        Err(ReadError::Fault(fault)) => unread(heap, fault),
+        Err(ReadError::Memory) => Err(AllocError),
     }
 }

@@ -1,12 +1,14 @@
 // What stands behind the name of a form.
-ghost use Rattle.parse.specs.Parser.{Gave, seen, house_of, quote_of, rest_of, away_of, enter_of, response_of, respond_of, amend_of, delete_of, settle_of, halt_of, body_of, begin_of, closed};
+ghost use Rattle.parse.specs.Parser.{Gave, seen, house_of, quote_of, rest_of, away_of, enter_of, response_of, delete_of, body_of, begin_of, closed};
 ghost use Rattle.forms.specs.Shapes.{shape};
 ghost use Rattle.parse.specs.View.{tokens, begun};
 
 use super::Reader;
-use crate::names::{Begun, Kind, Name};
+use crate::names::{Begun, Name};
 use forms::form::{Form, Market, Response};
 use forms::trouble::{Expected, Trouble};
+use market::names::Kind;
+use market::resting::Resting;
 
 impl<'a> Reader<'a> {
     // A form whose closing bracket comes next.
@@ -20,12 +22,12 @@ impl<'a> Reader<'a> {
     fn house(&mut self) -> Result<Begun, Trouble>
         ensures { Gave (seen begun result) (house_of (tokens self.old)) (tokens self.new) }
     {
-        let number = self.number()?;
-        match self.kind()? {
-            Kind::Series => {
-                let market = Market::Series;
-                self.closed(Form::House { number, market })
-            }
+        let number = self.value()?;
+        match self.value::<Kind>()? {
+            Kind::Series => self.closed(Form::House {
+                number,
+                market: Market::Series,
+            }),
             Kind::Net => Ok(Begun::Net(number)),
         }
     }
@@ -33,113 +35,73 @@ impl<'a> Reader<'a> {
     fn quote(&mut self) -> Result<Begun, Trouble>
         ensures { Gave (seen begun result) (quote_of (tokens self.old)) (tokens self.new) }
     {
-        let leg = self.number()?;
-        let edge = self.edge()?;
-        let price = self.number()?;
+        let leg = self.value()?;
+        let edge = self.value()?;
+        let price = self.value()?;
         self.open(Expected::Opening)?;
-        Ok(Begun::Quote(leg, edge, price))
+        Ok(Begun::Quote { leg, edge, price })
     }
 
     fn rest(&mut self) -> Result<Begun, Trouble>
         ensures { Gave (seen begun result) (rest_of (tokens self.old)) (tokens self.new) }
     {
-        let number = self.number()?;
-        let side = self.side()?;
-        let price = self.number()?;
-        let size = self.number()?;
-        let class = self.class()?;
-        self.closed(Form::Rest {
-            number,
-            side,
-            price,
-            size,
-            class,
-        })
+        let order = Resting {
+            number: self.value()?,
+            side: self.value()?,
+            price: self.value()?,
+            size: self.value()?,
+            class: self.value()?,
+        };
+        self.closed(Form::Rest(order))
     }
 
     fn away(&mut self) -> Result<Begun, Trouble>
         ensures { Gave (seen begun result) (away_of (tokens self.old)) (tokens self.new) }
     {
-        let side = self.side()?;
-        let price = self.number()?;
-        self.closed(Form::Away { side, price })
+        let form = Form::Away {
+            side: self.value()?,
+            price: self.value()?,
+        };
+        self.closed(form)
     }
 
     fn enter(&mut self) -> Result<Begun, Trouble>
         ensures { Gave (seen begun result) (enter_of (tokens self.old)) (tokens self.new) }
     {
-        let mechanism = self.mechanism()?;
-        let side = self.side()?;
-        let size = self.number()?;
-        let price = self.number()?;
-        let reserve = self.keyed(b"reserve", Expected::Reserve)?;
-        let time = self.keyed(b"time", Expected::Time)?;
-        let at = self.moment()?;
-        self.closed(Form::Enter {
-            mechanism,
-            side,
-            size,
-            price,
-            reserve,
-            time,
-            at,
-        })
+        let form = Form::Enter {
+            mechanism: self.value()?,
+            side: self.value()?,
+            size: self.value()?,
+            price: self.value()?,
+            reserve: self.keyed(b"reserve", Expected::Reserve)?,
+            time: self.keyed(b"time", Expected::Time)?,
+            at: self.moment()?,
+        };
+        self.closed(form)
     }
 
     fn response(&mut self) -> Result<Response, Trouble>
         ensures { Gave result (response_of (tokens self.old)) (tokens self.new) }
     {
-        let member = self.number()?;
-        let slot = self.number()?;
-        let price = self.number()?;
-        let size = self.number()?;
-        let class = self.class()?;
-        let at = self.moment()?;
         Ok(Response {
-            member,
-            slot,
-            price,
-            size,
-            class,
-            at,
+            member: self.value()?,
+            slot: self.value()?,
+            price: self.value()?,
+            size: self.value()?,
+            class: self.value()?,
+            at: self.moment()?,
         })
-    }
-
-    fn respond(&mut self) -> Result<Begun, Trouble>
-        ensures { Gave (seen begun result) (respond_of (tokens self.old)) (tokens self.new) }
-    {
-        let response = self.response()?;
-        self.closed(Form::Respond(response))
-    }
-
-    fn amend(&mut self) -> Result<Begun, Trouble>
-        ensures { Gave (seen begun result) (amend_of (tokens self.old)) (tokens self.new) }
-    {
-        let response = self.response()?;
-        self.closed(Form::Amend(response))
     }
 
     fn delete(&mut self) -> Result<Begun, Trouble>
         ensures { Gave (seen begun result) (delete_of (tokens self.old)) (tokens self.new) }
     {
-        let member = self.number()?;
-        let slot = self.number()?;
-        let at = self.moment()?;
-        self.closed(Form::Delete { member, slot, at })
-    }
-
-    fn settle(&mut self) -> Result<Begun, Trouble>
-        ensures { Gave (seen begun result) (settle_of (tokens self.old)) (tokens self.new) }
-    {
-        let at = self.moment()?;
-        self.closed(Form::Settle { at })
-    }
-
-    fn halt(&mut self) -> Result<Begun, Trouble>
-        ensures { Gave (seen begun result) (halt_of (tokens self.old)) (tokens self.new) }
-    {
-        let at = self.moment()?;
-        self.closed(Form::Halt { at })
+        let form = Form::Delete {
+            member: self.value()?,
+            slot: self.value()?,
+            at: self.moment()?,
+        };
+        self.closed(form)
     }
 
     fn body(&mut self, name: Name) -> Result<Begun, Trouble>
@@ -151,11 +113,23 @@ impl<'a> Reader<'a> {
             Name::Rest => self.rest(),
             Name::Away => self.away(),
             Name::Enter => self.enter(),
-            Name::Respond => self.respond(),
-            Name::Amend => self.amend(),
+            Name::Respond => {
+                let response = self.response()?;
+                self.closed(Form::Respond(response))
+            }
+            Name::Amend => {
+                let response = self.response()?;
+                self.closed(Form::Amend(response))
+            }
             Name::Delete => self.delete(),
-            Name::Settle => self.settle(),
-            Name::Halt => self.halt(),
+            Name::Settle => {
+                let at = self.moment()?;
+                self.closed(Form::Settle { at })
+            }
+            Name::Halt => {
+                let at = self.moment()?;
+                self.closed(Form::Halt { at })
+            }
         }
     }
 
@@ -164,7 +138,7 @@ impl<'a> Reader<'a> {
         ensures { Gave (seen begun result) (begin_of (tokens self.old)) (tokens self.new) }
     {
         self.open(Expected::Form)?;
-        let name = self.name()?;
+        let name = self.value()?;
         self.body(name)
     }
 }

@@ -1,14 +1,14 @@
 // The lists of a form, and whole forms.
 ghost use Rattle.std.specs.Prelude.{◌≡◌, ◌<◌, List, length, Some, Ok, vec_items, Option};
 ghost use Rattle.words.specs.Tokens.{Tok};
-ghost use Rattle.parse.specs.Parser.{Read, Gave, size_of, leg_of, next_leg_of, items_of, form_of};
+ghost use Rattle.parse.specs.Parser.{Read, Gave, seen, size_of, leg_of, next_leg_of, items_of, form_of};
 ghost use Rattle.forms.specs.Shapes.{shape};
 ghost use Rattle.parse.specs.View.{tokens, Built, asked, is_house_of};
 ghost use Rattle.std.proofs.Common.{rules};
 
 use super::Reader;
 use super::fields::known;
-use crate::names::{Begun, number_of};
+use crate::names::{Begun, Named};
 use crate::trouble::{FormError, unexpected};
 use forms::form::{Form, Market};
 use forms::trouble::{Expected, Trouble};
@@ -36,10 +36,7 @@ impl Item for i64 {
     fn next(reader: &mut Reader<'_>) -> Result<Option<i64>, Trouble> {
         match reader.scan.token() {
             Token::Close(_) => Ok(None),
-            Token::Word(word) => {
-                let size = known(number_of(word.bytes), word, Expected::Size)?;
-                Ok(Some(size))
-            }
+            Token::Word(word) => known(i64::of_word(word.bytes), word, Expected::Size).map(Some),
             other => Err(unexpected(other, Expected::Size)),
         }
     }
@@ -53,7 +50,7 @@ impl Item for Leg {
     fn next(reader: &mut Reader<'_>) -> Result<Option<Leg>, Trouble> {
         match reader.scan.token() {
             Token::Close(_) => Ok(None),
-            Token::Open(_) => reader.leg(),
+            Token::Open(_) => Ok(Some(reader.leg()?)),
             other => Err(unexpected(other, Expected::Leg)),
         }
     }
@@ -61,20 +58,22 @@ impl Item for Leg {
 
 impl<'a> Reader<'a> {
     // A leg behind its opening bracket.
-    fn leg(&mut self) -> Result<Option<Leg>, Trouble>
-        ensures { Gave result (leg_of (tokens self.old)) (tokens self.new) }
+    fn leg(&mut self) -> Result<Leg, Trouble>
+        ensures { Gave (seen Some result) (leg_of (tokens self.old)) (tokens self.new) }
     {
-        let side = self.side()?;
-        let ratio = self.number()?;
+        let leg = Leg {
+            side: self.value()?,
+            ratio: self.value()?,
+        };
         self.close()?;
-        Ok(Some(Leg { side, ratio }))
+        Ok(leg)
     }
 
-    // The items up to a closing bracket, which are passed over.
+    // The items up to a closing bracket, which are passed over. By hand, beside `list`: one line, and it needs no memory.
     fn skip<T: Item + Drop>(&mut self) -> Result<(), Trouble>
         ensures { Gave result (asked (items_of T.Item.reads (tokens self.old))) (tokens self.new) }
     {
-        while let Some(_) = T::next(self)? {}
+        while T::next(self)?.is_some() {}
         Ok(())
     }
 
@@ -99,7 +98,7 @@ impl<'a> Reader<'a> {
                 let market = Market::Net(self.list(heap)?);
                 Ok(Form::House { number, market })
             }
-            Begun::Quote(leg, edge, price) => {
+            Begun::Quote { leg, edge, price } => {
                 let sizes = self.list(heap)?;
                 self.close()?;
                 Ok(Form::Quote {
@@ -113,6 +112,7 @@ impl<'a> Reader<'a> {
     }
 
     // Passes over the next form of the line, and tells whether it is a house form.
+    // By hand, beside `form`: it needs no memory, and a trait for what is kept would be longer than both.
     pub fn check_form(&mut self) -> Result<bool, Trouble>
         ensures { Gave result (is_house_of (form_of (tokens self.old))) (tokens self.new) }
     {
@@ -122,7 +122,7 @@ impl<'a> Reader<'a> {
                 self.skip::<Leg>()?;
                 Ok(true)
             }
-            Begun::Quote(_, _, _) => {
+            Begun::Quote { .. } => {
                 self.skip::<i64>()?;
                 self.close()?;
                 Ok(false)

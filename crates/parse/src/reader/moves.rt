@@ -21,6 +21,7 @@ impl<'a> Reader<'a> {
         }
     }
 
+    // By hand, these four: of the scanner's methods a reader offers only them, and keeps the tokens to itself.
     // The number of the line, from 1.
     pub fn line_number(&self) -> u32
         ensures { result ≡ self.now.scan.line }

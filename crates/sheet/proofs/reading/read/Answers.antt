@@ -1,5 +1,4 @@
-use Rattle.std.proofs.Common.{◌+◌, true, false, vec_items, sym, ◌∙◌}
-use Rattle.std.proofs.lemmas.Result.{err_from_is_err_and}
+use Rattle.std.proofs.Common.{rules, ◌+◌, true, false, vec_items, sym, ◌∙◌}
 use Rattle.std.proofs.lemmas.Bool.{cond-true, ltb-false}
 use Rattle.forms.specs.declared.fault.Fault.TheVariants.{TooLong}
 use Rattle.grammar.specs.Sheets.{longest}
@@ -13,9 +12,7 @@ pub loop-found-init : goal.loop-found-init
 loop-found-init c = let i = c.new-reader.ensures in noting_first c.args.sheet.now c.new-reader.result (vec_items c.new-found.result) c.new-found.ensures.items (ltb-false longest _ (sym c.too_long.ensures ∙ c.if-too_long.false)) i.0 i.1 i.2 i.3
 
 pub returns-in_err-note_line : goal.returns-in_err-note_line
-returns-in_err-note_line c =
-    let p = err_from_is_err_and c.from_residual.result c.from_residual.ensures.1 in
-    rw (p.1, p.2) (noting_stop _ c.loop-found.reader c.note_line.new.reader (vec_items c.loop-found.found) (vec_items c.note_line.new.found) _ c.loop-found.invariant c.in_err-note_line.ensures)
+returns-in_err-note_line c = search (rules, noting_stop _ c.loop-found.reader c.note_line.new.reader (vec_items c.loop-found.found) (vec_items c.note_line.new.found) _ c.loop-found.invariant c.in_err-note_line.ensures)
 
 pub loop-found-smaller : goal.loop-found-smaller
 loop-found-smaller c = next_shorter c.loop-found.reader c.note_line.new.reader _ c.in_ok-note_line.ensures.1 c.if-not-next_line.ensures.1.0

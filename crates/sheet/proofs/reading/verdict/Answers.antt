@@ -1,5 +1,4 @@
-use Rattle.std.proofs.Common.{◌+◌, [], sym, ap, ◌∙◌}
-use Rattle.std.proofs.lemmas.Result.{err_from_is_err_and}
+use Rattle.std.proofs.Common.{rules, ◌+◌, [], sym, ap, ◌∙◌}
 use Rattle.std.proofs.lemmas.Bool.{cond-true, ltb-false}
 use Rattle.grammar.specs.Reading.{accepted, read_lines}
 use Rattle.grammar.specs.Sheets.{longest}
@@ -13,9 +12,7 @@ pub loop-forms-init : goal.loop-forms-init
 loop-forms-init c = let i = c.new-reader.ensures in judging_first c.args.sheet.now c.new-reader.result (ltb-false longest _ (sym c.too_long.ensures ∙ c.if-too_long.false)) i.0 i.1 i.2 i.3
 
 pub returns-in_err-forms : goal.returns-in_err-forms
-returns-in_err-forms c =
-    let p = err_from_is_err_and c.from_residual.result c.from_residual.ensures.1 in
-    rw (p.1, p.2) (verdict_is _ _ (judging_fault _ c.loop-forms.reader c.judge_line.new.reader c.loop-forms.forms _ c.loop-forms.invariant c.in_err-forms.ensures))
+returns-in_err-forms c = let j = judging_fault _ c.loop-forms.reader c.judge_line.new.reader c.loop-forms.forms _ c.loop-forms.invariant c.in_err-forms.ensures in search (rules, verdict_is)
 
 pub loop-forms-smaller : goal.loop-forms-smaller
 loop-forms-smaller c = next_shorter c.loop-forms.reader c.judge_line.new.reader _ c.in_ok-forms.ensures.1 c.if-not-next_line.ensures.1.0

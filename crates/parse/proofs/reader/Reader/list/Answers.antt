@@ -9,9 +9,6 @@ use Rattle.parse.proofs.reader.Reader.list.Goals as goal
 item : (g : given.Over) (c : goal.In_ok-push g) → g.T.Item.reads (tokens c.loop-items.self) ≡ Ok (Some c.in-Some.item, tokens c.next.new.reader)
 item g c = c.in_ok-item.ensures ∙ ap (λ o. Ok (o, tokens c.next.new.reader)) c.in-Some.is
 
-pub loop-items-smaller : goal.loop-items-smaller
-loop-items-smaller g c = g.met.T.Item.takes _ _ _ (item g c)
-
 pub loop-items-preserved : goal.loop-items-preserved
 loop-items-preserved g c =
     let next = g.T.Item.reads in
