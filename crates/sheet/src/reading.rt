@@ -15,7 +15,7 @@ use std::alloc::Global;
 use words::bytes::Kind;
 
 // The most bytes that a sheet has.
-pub const LONGEST: usize = 65536;
+pub const LONGEST: usize = words::scan::LONGEST;
 
 // The fault of a sheet that has no form.
 const FORMLESS: Fault = Fault::House {
