@@ -17,13 +17,13 @@ pub enum Kind {
 pub fn kind_of(b: u8) -> Kind
     ensures { result ≡ kind b }
 {
-    match b {
-        b'\n' => Kind::LineEnd,
-        b' ' => Kind::Space,
-        b'(' => Kind::Open,
-        b')' => Kind::Close,
-        b';' => Kind::Semicolon,
-        b'-' | b'a'..=b'z' | b'0'..=b'9' => Kind::Letter,
+    match b as char {
+        '\n' => Kind::LineEnd,
+        ' ' => Kind::Space,
+        '(' => Kind::Open,
+        ')' => Kind::Close,
+        ';' => Kind::Semicolon,
+        '-' | 'a'..='z' | '0'..='9' => Kind::Letter,
         _ => Kind::Other,
     }
 }
