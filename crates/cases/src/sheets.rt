@@ -7,13 +7,11 @@ use std::test::Fail;
 fn padded(heap: Global, bytes: usize) -> Result<Vec<u8>, AllocError> {
     let mut sheet = Vec::new(heap);
     sheet.extend_from_slice(b"(house 1 series)")?;
-    for _ in sheet.len()..bytes {
-        sheet.push(b' ')?;
-    }
+    sheet.resize(bytes, b' ')?;
     Ok(sheet)
 }
 
-// The number and line of a sheet's fault, and two zeros where it is accepted.
+// The number and line of a sheet's fault as docs/REFUSALS.md gives them, and two zeros where it is accepted.
 fn judged(sheet: &[u8]) -> (u32, u32) {
     match verdict(sheet) {
         Ok(()) => (0, 0),
@@ -41,6 +39,7 @@ fn words_have_their_places(rt: HostRuntime) -> Result<(), Fail> {
     assert!(rt; forms.len() == 2);
     assert_eq!(rt; forms[1].line, 3);
     let mut words = forms[1].words();
+    // By hand: how many were looked at is itself what is tested.
     let mut found = 0u32;
     for (text, column) in [(&b"settle"[..], 4u32), (&b"at"[..], 12), (&b"5"[..], 15)] {
         let Some(word) = words.next_word() else {

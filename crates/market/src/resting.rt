@@ -1,7 +1,7 @@
 // Orders as a caller hands them in to rest.
 use super::names::{Class, Side};
 
-// The number that the order is to rest under, and its fields, within their limits or not.
+// An order that somebody would rest: the number that it is to stand under, and its fields, within their limits or not.
 #[derive(Clone, Copy, PartialEq, Eq)]
 pub struct Resting {
     pub number: i64,

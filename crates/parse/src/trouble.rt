@@ -3,6 +3,7 @@ ghost use Rattle.std.specs.Prelude.{◌≡◌};
 ghost use Rattle.parse.specs.declared.trouble.Failed.TheVariants as failed;
 ghost use Rattle.parse.specs.Troubles.{mark, trouble_at};
 
+use forms::fault::Fault;
 use forms::trouble::{Expected, Found, Trouble};
 use std::alloc::{AllocError, AllocFailed};
 use words::token::Token;
@@ -22,6 +23,14 @@ impl From<Trouble> for Failed<Trouble> {
 
     fn from(t: Trouble) -> Self {
         Failed::Fault(t)
+    }
+}
+
+impl From<Fault> for Failed<Fault> {
+    ghost from_gives = { λ f e. e ≡ failed.Fault f };
+
+    fn from(f: Fault) -> Self {
+        Failed::Fault(f)
     }
 }
 

@@ -16,7 +16,8 @@ use market::resting::Resting;
 use std::alloc::{AllocError, Global};
 
 // A series has a book and an away board. A net has a book and its legs as one pool, the book first, and nothing away.
-// By hand: that each book is of its kind stands in `series` and `net`; a type for it would change `Book::new`.
+// That the book of each is of its kind, `series` and `net` see to. By hand: a variant takes no ghost field, and a book with its
+// kind in its type could not be made by the public `Book::new`, which takes the kind as a value.
 #[derive(Drop)]
 pub enum SheetMarket {
     Series {

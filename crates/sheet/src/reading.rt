@@ -103,7 +103,7 @@ fn note_line<'a>(
     let Some(form) = said else {
         return Ok(());
     };
-    in_place(form.form.is_house(), !found.is_empty(), line).map_err(ReadError::Fault)?;
+    in_place(form.form.is_house(), !found.is_empty(), line)?;
     found.push(form)?;
     Ok(())
 }

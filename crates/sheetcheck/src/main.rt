@@ -1,11 +1,12 @@
 // Writes the forms of the sheet on standard input in plain spelling, or why it is not read.
 #![tactic(auto)]
 
+use sheet::reading::LONGEST;
 use sheet::report::report;
 use std::io::Read;
 
 // One byte more than a sheet has at most: longer input is refused without being held.
-const MOST: u64 = 65537;
+const MOST: u64 = LONGEST as u64 + 1;
 
 fn run(rt: &HostRuntime) -> anyhow::Result<()> {
     let mut sheet = Vec::new(rt.alloc());

@@ -6,6 +6,7 @@ use pools::book::Book;
 use pools::pair::Pair;
 use std::test::Fail;
 
+// Rests a buy of class other: 0, or the number of the refusal.
 fn rest(book: &mut Book, number: i64, price: i64, size: i64) -> u8 {
     told(book.rest(buy(number, price, size)))
 }

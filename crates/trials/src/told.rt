@@ -4,7 +4,7 @@ use market::names::{Class, Side};
 use market::refusal::Refusal;
 use market::resting::Resting;
 
-// 0, or the number of the refusal.
+// 0, or the number of the refusal: what docs/REFUSALS.md says is what is tested.
 pub(crate) fn told<T: Drop>(r: Result<T, Refusal>) -> u8 {
     r.err().map_or(0, Refusal::number)
 }

@@ -22,7 +22,8 @@ pub(crate) fn known<T>(value: Option<T>, word: Word, expected: Expected) -> Resu
 }
 
 impl<'a> Reader<'a> {
-    // By hand, here and in the three below: each match names its token in one line, and a test passed in would be no shorter.
+    // The next token as a word. By hand, here and in the three below: each match names its token in one line, and a test passed
+    // in would be no shorter.
     fn word(&mut self, expected: Expected) -> Result<Word<'a>, Trouble>
         ensures { Gave (seen placed result) (word_of expected (tokens self.old)) (tokens self.new) }
     {
@@ -32,6 +33,7 @@ impl<'a> Reader<'a> {
         }
     }
 
+    // An opening bracket.
     pub(crate) fn open(&mut self, expected: Expected) -> Result<(), Trouble>
         ensures { Gave result (open_of expected (tokens self.old)) (tokens self.new) }
     {
@@ -41,6 +43,7 @@ impl<'a> Reader<'a> {
         }
     }
 
+    // A closing bracket.
     pub(crate) fn close(&mut self) -> Result<(), Trouble>
         ensures { Gave result (close_of (tokens self.old)) (tokens self.new) }
     {

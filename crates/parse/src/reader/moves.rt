@@ -3,6 +3,7 @@ ghost use Rattle.std.specs.Prelude.{◌≡◌, take, ◌≢◌};
 ghost use Rattle.words.specs.declared.bytes.Kind.TheVariants.{Space};
 ghost use Rattle.words.specs.Bytes.{next, behind, Skips};
 ghost use Rattle.words.specs.Place.{Onto};
+ghost use Rattle.words.specs.declared.scan.TheConstants.{LONGEST};
 ghost use Rattle.words.specs.View.{rest, words_in, NextWord, CutWord};
 ghost use Rattle.parse.specs.View.{tokens};
 
@@ -11,17 +12,17 @@ use words::bytes::Kind;
 use words::scan::Scanner;
 use words::token::Word;
 
+// By hand, four of these: of the scanner's methods a reader offers only them, and keeps the tokens to itself.
 impl<'a> Reader<'a> {
-    // At the start of a sheet, of which 65,536 bytes are read.
+    // At the start of a sheet, of which the first LONGEST bytes are read.
     pub fn new(sheet: &'a [u8]) -> Self
-        ensures { (result.scan.sheet.now ≡ take 65536 sheet.now) × (result.scan.at ≡ 0) × (result.scan.line ≡ 1) × (result.scan.column ≡ 1) }
+        ensures { (result.scan.sheet.now ≡ take LONGEST sheet.now) × (result.scan.at ≡ 0) × (result.scan.line ≡ 1) × (result.scan.column ≡ 1) }
     {
         Reader {
             scan: Scanner::new(sheet),
         }
     }
 
-    // By hand, these four: of the scanner's methods a reader offers only them, and keeps the tokens to itself.
     // The number of the line, from 1.
     pub fn line_number(&self) -> u32
         ensures { result ≡ self.now.scan.line }
