@@ -1,6 +1,9 @@
 // The implied orders.
-ghost use Rattle.std.specs.Prelude.{◌≡◌, ◌≤◌, false, List, map, is_ok, ℤ, ◌≤ℤ◌};
+ghost use Rattle.std.specs.Prelude.{◌≡◌, ◌≤◌, false, List, [], ◌∷◌, map, is_ok, ℤ, ◌≤ℤ◌};
 ghost use Rattle.std.specs.List.{AllByRecursion};
+ghost use Rattle.std.specs.Option.{ok_or};
+ghost use Rattle.market.specs.declared.names.Side.TheVariants.{Buy, Sell};
+ghost use Rattle.market.specs.Lists.{placed};
 ghost use Rattle.market.specs.Limits.{lowest_price, highest_price, most_size};
 ghost use Rattle.legs.specs.Model.{net_price, net_size, leg_size, taken_leg, implied, listed, taken_answer, taken_legs, taken_at};
 ghost use Rattle.legs.specs.Quoting.{quote_answer, after_quote};
@@ -16,11 +19,19 @@ use super::LegsMarket;
 use arrayvec::ArrayVec;
 use market::depth::{Depth, Pool};
 use market::entry::Entry;
+use market::lists::at_place;
 use market::names::{Class, Edge, Leg, Side};
 use market::refusal::Refusal;
 
 // The implied buy and the implied sell.
 const IMPLIED_ORDERS: usize = 2;
+
+// The side of the implied order at a place: the buy, then the sell.
+fn side_at(place: usize) -> Result<Side, Refusal>
+    ensures { result ≡ ok_or (placed (Buy ∷ Sell ∷ []) place) Refusal.NotTakable }
+{
+    at_place(&[Side::Buy, Side::Sell], place)
+}
 
 // Takes the contracts of n implied orders from every leg.
 fn take_each(legs: &mut [LegQuotes], side: Side, n: u32)
@@ -121,11 +132,8 @@ impl Depth for LegsMarket {
     }
 
     fn entry(&self, place: usize) -> Result<Entry, Refusal> {
-        match place {
-            1 => Ok(self.implied(Side::Buy)),
-            2 => Ok(self.implied(Side::Sell)),
-            _ => Err(Refusal::NotTakable),
-        }
+        let side = side_at(place)?;
+        Ok(self.implied(side))
     }
 }
 
@@ -133,10 +141,7 @@ impl Pool for LegsMarket {
     ghost took = { λ m place n k. legs_held k ≡ taken_at place n (legs_held m) };
 
     fn take(&mut self, place: usize, n: u32) -> Result<(), Refusal> {
-        match place {
-            1 => self.take_implied(Side::Buy, n),
-            2 => self.take_implied(Side::Sell, n),
-            _ => Err(Refusal::NotTakable),
-        }
+        let side = side_at(place)?;
+        self.take_implied(side, n)
     }
 }
