@@ -12,10 +12,10 @@ ghost use Rattle.legs.specs.Legs.{leg_held};
 ghost use Rattle.legs.specs.Held.{legs_held, answer_held};
 ghost use Rattle.std.proofs.Common.{rules};
 
-use super::super::fields::{parts_ok, quote_ok};
+use super::super::fields::LEAST_LEGS;
 use super::super::leg::LegQuotes;
 use super::super::legside::LegSide;
-use super::LegsMarket;
+use super::{LegsMarket, MOST_LEGS};
 use arrayvec::ArrayVec;
 use market::depth::{Depth, Pool};
 use market::entry::Entry;
@@ -49,12 +49,13 @@ impl LegsMarket {
     pub fn new(parts: &[Leg]) -> Result<LegsMarket, Refusal>
         ensures { answer_held result ≡ new_answer parts.now }
     {
-        if !parts_ok(parts) {
+        if !(LEAST_LEGS..=MOST_LEGS).contains(&parts.len()) {
             return Err(Refusal::OutOfLimits);
         }
         let mut legs = ArrayVec::new();
         for part in parts {
-            legs.push(LegQuotes::new(part.side, part.ratio));
+            let leg = LegQuotes::new(*part)?;
+            legs.push(leg);
         }
         Ok(LegsMarket { legs })
     }
@@ -99,10 +100,10 @@ impl LegsMarket {
         ensures answer { result ≡ quote_answer (legs_held self.old) leg price sizes.now }
         ensures after { legs_held self.new ≡ after_quote (legs_held self.old) leg edge price sizes.now }
     {
-        if !quote_ok(self.legs.len(), leg, price, sizes) {
+        if !(1..=self.legs.len() as i64).contains(&leg) {
             return Err(Refusal::OutOfLimits);
         }
-        let side = LegSide::quoted(price, sizes);
+        let side = LegSide::quoted(price, sizes)?;
         let i = leg as usize - 1;
         self.legs[i].replace(edge, side);
         Ok(())
