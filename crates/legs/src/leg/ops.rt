@@ -14,7 +14,7 @@ use super::LegQuotes;
 use market::names::{Edge, Leg, Side};
 use market::refusal::Refusal;
 
-// What stands where no leg is.
+// An `ArrayVec` fills its unused places with it.
 impl Default for LegQuotes {
     ghost is_default = { λ l. leg_held l ≡ fresh_leg Buy (pos 1) };
 
@@ -36,6 +36,7 @@ impl LegQuotes {
         if !(1..=HIGHEST_RATIO).contains(&part.ratio) {
             return Err(Refusal::OutOfLimits);
         }
+        // By hand, here and in `price`: `try_from` tests the types' limits, which are wider than these.
         Ok(LegQuotes {
             side: part.side,
             ratio: part.ratio as u32,

@@ -1,5 +1,6 @@
 // What a leg side holds, and what is taken from it.
-ghost use Rattle.std.specs.Prelude.{◌≡◌, ℕ, ◌≤◌, true, false, ◌&&◌, IfOk, IfErr, length, sum, slice_index};
+ghost use Rattle.std.specs.Prelude.{◌≡◌, ℕ, ◌≤◌, ◌*◌, true, false, ◌&&◌, IfOk, IfErr, length, sum, slice_index};
+ghost use Rattle.legs.specs.Limits.{highest_quote, most_quotes, most_quoted};
 ghost use Rattle.legs.specs.Model.{taken_side, bare, less};
 ghost use Rattle.legs.specs.Sides.{side_held};
 ghost use Rattle.legs.specs.Quotes.{sizes, places};
@@ -45,6 +46,8 @@ impl LegSide {
         if !side_ok(price, sizes) {
             return Err(Refusal::OutOfLimits);
         }
+        // By hand: `ArrayVec::from_iter` answers a `Result`, though the quotes always have room; and `try_from` tests the
+        // types' limits, which are wider than these.
         let mut quotes = ArrayVec::new();
         for (place, size) in sizes.iter().enumerate() {
             quotes.push(Quote {
@@ -60,7 +63,7 @@ impl LegSide {
 
     pub(crate) fn price(&self) -> u32
         ensures value { result ≡ (side_held self.now).price }
-        ensures bound { result ≤ 25000 }
+        ensures bound { result ≤ highest_quote }
     {
         self.price
     }
@@ -68,7 +71,7 @@ impl LegSide {
     // Contracts in all.
     pub(crate) fn total(&self) -> u32
         ensures value { result ≡ sum (side_held self.now).quotes }
-        ensures bound { result ≤ 1000000 }
+        ensures bound { result ≤ most_quotes * most_quoted }
     {
         self.quotes.iter().map(|quote| quote.size).sum()
     }

@@ -52,6 +52,7 @@ impl LegsMarket {
         if !(LEAST_LEGS..=MOST_LEGS).contains(&parts.len()) {
             return Err(Refusal::OutOfLimits);
         }
+        // By hand: the loop answers at the first leg that is refused.
         let mut legs = ArrayVec::new();
         for part in parts {
             let leg = LegQuotes::new(*part)?;
@@ -104,6 +105,7 @@ impl LegsMarket {
             return Err(Refusal::OutOfLimits);
         }
         let side = LegSide::quoted(price, sizes)?;
+        // By hand: `try_from` tests the types' limits, which are wider than those just tested.
         let i = leg as usize - 1;
         self.legs[i].replace(edge, side);
         Ok(())
