@@ -12,7 +12,7 @@ pub struct Quote {
     ghost few: { size ≤ most_quoted },
 }
 
-// What stands where no quote is.
+// An `ArrayVec` fills its unused places with it.
 impl Default for Quote {
     ghost is_default = { λ q. (q.place ≡ 0) × (q.size ≡ 0) };
 

@@ -31,6 +31,7 @@ fn measure<C: Claim>(claims: &[C]) -> Option<u32>
     if claims.len() > MOST_CLAIMS {
         return None;
     }
+    // By hand: the loop answers at the first claim outside its limits.
     let mut total: u32 = 0;
     let mut low: u64 = 0;
     for claim in claims {
@@ -69,6 +70,7 @@ impl Rate {
         if self.total == 0 {
             return 0;
         }
+        // By hand: the part is at most the size, as `within` says; `try_from` tests the type's limit, which is wider.
         (u64::from(self.amount) * u64::from(size) / u64::from(self.total)) as u32
     }
 

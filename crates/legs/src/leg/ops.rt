@@ -1,39 +1,48 @@
 // What a leg gives to an implied order.
-ghost use Rattle.std.specs.Prelude.{◌≡◌, ◌*◌, ◌≤◌, true, pos, negsuc, ◌≤ℤ◌};
+ghost use Rattle.std.specs.Prelude.{◌≡◌, ◌*◌, ◌≤◌, true, false, IfOk, IfErr, pos, negsuc, ◌≤ℤ◌};
 ghost use Rattle.legs.specs.Model.{by_side, used, leg_price, leg_size, taken_leg};
 ghost use Rattle.market.specs.declared.names.Side.TheVariants.{Buy};
 ghost use Rattle.market.specs.declared.names.Edge.TheVariants.{Bid, Offer};
 ghost use Rattle.legs.specs.Sides.{side_held};
-ghost use Rattle.legs.specs.Fields.{ratio_ok};
-ghost use Rattle.legs.specs.Making.{fresh_leg};
+ghost use Rattle.legs.specs.Making.{fresh_leg, part_ok, part_leg};
 ghost use Rattle.legs.specs.Quoting.{quoted_leg};
 ghost use Rattle.legs.specs.Legs.{leg_held};
 
+use super::super::fields::HIGHEST_RATIO;
 use super::super::legside::LegSide;
 use super::LegQuotes;
-use market::names::{Edge, Side};
+use market::names::{Edge, Leg, Side};
+use market::refusal::Refusal;
 
-// What stands where no leg is.
+// An `ArrayVec` fills its unused places with it.
 impl Default for LegQuotes {
     ghost is_default = { λ l. leg_held l ≡ fresh_leg Buy (pos 1) };
 
     fn default() -> LegQuotes {
-        LegQuotes::new(Side::Buy, 1)
+        LegQuotes::new(Leg {
+            side: Side::Buy,
+            ratio: 1,
+        })
+        .unwrap()
     }
 }
 
 impl LegQuotes {
-    // A leg without quotes.
-    pub(crate) fn new(side: Side, ratio: i64) -> LegQuotes
-        requires { ratio_ok ratio ≡ true }
-        ensures { leg_held result ≡ fresh_leg side ratio }
+    // A leg without quotes; refused where its ratio is outside its limits.
+    pub(crate) fn new(part: Leg) -> Result<LegQuotes, Refusal>
+        ensures ok { IfOk result (λ l. (part_ok part ≡ true) × (leg_held l ≡ part_leg part)) }
+        ensures err { IfErr result (λ e. (part_ok part ≡ false) × (e ≡ Refusal.OutOfLimits)) }
     {
-        LegQuotes {
-            side,
-            ratio: ratio as u32,
+        if !(1..=HIGHEST_RATIO).contains(&part.ratio) {
+            return Err(Refusal::OutOfLimits);
+        }
+        // By hand, here and in `price`: `try_from` tests the types' limits, which are wider than these.
+        Ok(LegQuotes {
+            side: part.side,
+            ratio: part.ratio as u32,
             bid: LegSide::new(),
             offer: LegSide::new(),
-        }
+        })
     }
 
     // The edge that an implied order of a side uses.

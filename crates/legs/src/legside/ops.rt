@@ -1,14 +1,17 @@
 // What a leg side holds, and what is taken from it.
-ghost use Rattle.std.specs.Prelude.{◌≡◌, ℕ, ◌≤◌, true, length, sum, slice_index};
+ghost use Rattle.std.specs.Prelude.{◌≡◌, ℕ, ◌≤◌, ◌*◌, true, false, ◌&&◌, IfOk, IfErr, length, sum, slice_index};
+ghost use Rattle.legs.specs.Limits.{highest_quote, most_quotes, most_quoted};
 ghost use Rattle.legs.specs.Model.{taken_side, bare, less};
 ghost use Rattle.legs.specs.Sides.{side_held};
 ghost use Rattle.legs.specs.Quotes.{sizes, places};
 ghost use Rattle.legs.specs.Fields.{price_ok, sizes_ok};
 ghost use Rattle.legs.specs.Quoting.{quoted_side};
 
+use super::super::fields::side_ok;
 use super::super::quote::Quote;
 use super::{LegSide, MOST_QUOTES};
 use arrayvec::ArrayVec;
+use market::refusal::Refusal;
 use share::share_out;
 
 // Lowers each quote by its number.
@@ -35,12 +38,16 @@ impl LegSide {
         }
     }
 
-    // At a price, with a quote of each size.
-    pub(crate) fn quoted(price: i64, sizes: &[i64]) -> LegSide
-        requires price { price_ok price ≡ true }
-        requires sizes { sizes_ok sizes.now ≡ true }
-        ensures { side_held result ≡ quoted_side price sizes.now }
+    // At a price, with a quote of each size; refused where one of them is outside its limits.
+    pub(crate) fn quoted(price: i64, sizes: &[i64]) -> Result<LegSide, Refusal>
+        ensures ok { IfOk result (λ s. ((price_ok price && sizes_ok sizes.now) ≡ true) × (side_held s ≡ quoted_side price sizes.now)) }
+        ensures err { IfErr result (λ e. ((price_ok price && sizes_ok sizes.now) ≡ false) × (e ≡ Refusal.OutOfLimits)) }
     {
+        if !side_ok(price, sizes) {
+            return Err(Refusal::OutOfLimits);
+        }
+        // By hand: `ArrayVec::from_iter` answers a `Result`, though the quotes always have room; and `try_from` tests the
+        // types' limits, which are wider than these.
         let mut quotes = ArrayVec::new();
         for (place, size) in sizes.iter().enumerate() {
             quotes.push(Quote {
@@ -48,15 +55,15 @@ impl LegSide {
                 size: *size as u32,
             });
         }
-        LegSide {
+        Ok(LegSide {
             price: price as u32,
             quotes,
-        }
+        })
     }
 
     pub(crate) fn price(&self) -> u32
         ensures value { result ≡ (side_held self.now).price }
-        ensures bound { result ≤ 25000 }
+        ensures bound { result ≤ highest_quote }
     {
         self.price
     }
@@ -64,7 +71,7 @@ impl LegSide {
     // Contracts in all.
     pub(crate) fn total(&self) -> u32
         ensures value { result ≡ sum (side_held self.now).quotes }
-        ensures bound { result ≤ 1000000 }
+        ensures bound { result ≤ most_quotes * most_quoted }
     {
         self.quotes.iter().map(|quote| quote.size).sum()
     }

@@ -1,6 +1,9 @@
 // The implied orders.
-ghost use Rattle.std.specs.Prelude.{◌≡◌, ◌≤◌, false, List, map, is_ok, ℤ, ◌≤ℤ◌};
+ghost use Rattle.std.specs.Prelude.{◌≡◌, ◌≤◌, false, List, [], ◌∷◌, map, is_ok, ℤ, ◌≤ℤ◌};
 ghost use Rattle.std.specs.List.{AllByRecursion};
+ghost use Rattle.std.specs.Option.{ok_or};
+ghost use Rattle.market.specs.declared.names.Side.TheVariants.{Buy, Sell};
+ghost use Rattle.market.specs.Lists.{placed};
 ghost use Rattle.market.specs.Limits.{lowest_price, highest_price, most_size};
 ghost use Rattle.legs.specs.Model.{net_price, net_size, leg_size, taken_leg, implied, listed, taken_answer, taken_legs, taken_at};
 ghost use Rattle.legs.specs.Quoting.{quote_answer, after_quote};
@@ -9,18 +12,26 @@ ghost use Rattle.legs.specs.Legs.{leg_held};
 ghost use Rattle.legs.specs.Held.{legs_held, answer_held};
 ghost use Rattle.std.proofs.Common.{rules};
 
-use super::super::fields::{parts_ok, quote_ok};
+use super::super::fields::LEAST_LEGS;
 use super::super::leg::LegQuotes;
 use super::super::legside::LegSide;
-use super::LegsMarket;
+use super::{LegsMarket, MOST_LEGS};
 use arrayvec::ArrayVec;
 use market::depth::{Depth, Pool};
 use market::entry::Entry;
+use market::lists::at_place;
 use market::names::{Class, Edge, Leg, Side};
 use market::refusal::Refusal;
 
 // The implied buy and the implied sell.
 const IMPLIED_ORDERS: usize = 2;
+
+// The side of the implied order at a place: the buy, then the sell.
+fn side_at(place: usize) -> Result<Side, Refusal>
+    ensures { result ≡ ok_or (placed (Buy ∷ Sell ∷ []) place) Refusal.NotTakable }
+{
+    at_place(&[Side::Buy, Side::Sell], place)
+}
 
 // Takes the contracts of n implied orders from every leg.
 fn take_each(legs: &mut [LegQuotes], side: Side, n: u32)
@@ -38,12 +49,14 @@ impl LegsMarket {
     pub fn new(parts: &[Leg]) -> Result<LegsMarket, Refusal>
         ensures { answer_held result ≡ new_answer parts.now }
     {
-        if !parts_ok(parts) {
+        if !(LEAST_LEGS..=MOST_LEGS).contains(&parts.len()) {
             return Err(Refusal::OutOfLimits);
         }
+        // By hand: the loop answers at the first leg that is refused.
         let mut legs = ArrayVec::new();
         for part in parts {
-            legs.push(LegQuotes::new(part.side, part.ratio));
+            let leg = LegQuotes::new(*part)?;
+            legs.push(leg);
         }
         Ok(LegsMarket { legs })
     }
@@ -88,10 +101,11 @@ impl LegsMarket {
         ensures answer { result ≡ quote_answer (legs_held self.old) leg price sizes.now }
         ensures after { legs_held self.new ≡ after_quote (legs_held self.old) leg edge price sizes.now }
     {
-        if !quote_ok(self.legs.len(), leg, price, sizes) {
+        if !(1..=self.legs.len() as i64).contains(&leg) {
             return Err(Refusal::OutOfLimits);
         }
-        let side = LegSide::quoted(price, sizes);
+        let side = LegSide::quoted(price, sizes)?;
+        // By hand: `try_from` tests the types' limits, which are wider than those just tested.
         let i = leg as usize - 1;
         self.legs[i].replace(edge, side);
         Ok(())
@@ -121,11 +135,8 @@ impl Depth for LegsMarket {
     }
 
     fn entry(&self, place: usize) -> Result<Entry, Refusal> {
-        match place {
-            1 => Ok(self.implied(Side::Buy)),
-            2 => Ok(self.implied(Side::Sell)),
-            _ => Err(Refusal::NotTakable),
-        }
+        let side = side_at(place)?;
+        Ok(self.implied(side))
     }
 }
 
@@ -133,10 +144,7 @@ impl Pool for LegsMarket {
     ghost took = { λ m place n k. legs_held k ≡ taken_at place n (legs_held m) };
 
     fn take(&mut self, place: usize, n: u32) -> Result<(), Refusal> {
-        match place {
-            1 => self.take_implied(Side::Buy, n),
-            2 => self.take_implied(Side::Sell, n),
-            _ => Err(Refusal::NotTakable),
-        }
+        let side = side_at(place)?;
+        self.take_implied(side, n)
     }
 }

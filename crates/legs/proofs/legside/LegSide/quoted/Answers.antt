@@ -1,10 +1,11 @@
-use Rattle.std.proofs.Common.{get_or, pos, refl, rules, arith, w64, SFits, true, ◌≡◌}
+use Rattle.std.proofs.Common.{get_or, pos, refl, rules, arith, w64, SFits, true, ◌≡◌, ◌&&◌, tests}
 use Rattle.std.proofs.lemmas.Bool.Decides.{nat_tests}
+use Rattle.std.proofs.lemmas.Bool.{and_parts}
 use Rattle.market.specs.Lists.{all_of}
 use Rattle.market.proofs.Narrow.{narrow, cast_abs}
 use Rattle.market.proofs.Tested.{each_ok}
 use Rattle.legs.specs.Limits.{most_quoted, highest_quote}
-use Rattle.legs.specs.Fields.{size_ok}
+use Rattle.legs.specs.Fields.{price_ok, size_ok, sizes_ok}
 use Rattle.legs.proofs.Sided.{quoting_more, quoted_long, quoted_line}
 use Rattle.legs.proofs.legside.LegSide.quoted.Goals as goal
 
@@ -22,8 +23,10 @@ pub invariant_of-result : goal.invariant_of-result
 invariant_of-result c =
     let z = c.args.price in
     let f : SFits w64 z = search rules in
-    let k = narrow 1 highest_quote z c.requires.price in
-    let e = cast_abs 1 highest_quote z f c.requires.price in
+    let ok : price_ok z && sizes_ok c.args.sizes.now ≡ true = search (rules, tests) in
+    let price = (and_parts (price_ok z) (sizes_ok c.args.sizes.now) ok).0 in
+    let k = narrow 1 highest_quote z price in
+    let e = cast_abs 1 highest_quote z f price in
     let long = quoted_long _ _ _ c.loop-place.invariant in
     record {
       low = omega arith;

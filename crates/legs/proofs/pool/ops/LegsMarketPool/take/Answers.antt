@@ -1,16 +1,13 @@
 use Rattle.std.proofs.Common.{ap}
 use Rattle.legs.specs.Model.{listed}
-use Rattle.legs.proofs.Implied.{bought, sold, buy_answer, sell_answer}
+use Rattle.legs.proofs.Implied.{side_answer, side_after}
 use Rattle.legs.proofs.pool.ops.LegsMarketPool.take.Goals as goal
 
-pub returns-in-1-clause-answer : goal.returns-in-1-clause-answer
-returns-in-1-clause-answer c = let e = buy_answer c.args.n c.args.self.now.legs.items in cc
+pub returns-clause-answer : goal.returns-clause-answer
+returns-clause-answer c = let e = side_answer c.args.place c.in_ok-side.side c.args.n c.args.self.now.legs.items cc in cc
 
-pub returns-in-1-clause-list : goal.returns-in-1-clause-list
-returns-in-1-clause-list c = let l = ap listed c.take_implied.ensures.after in let e = bought c.args.n c.args.self.now.legs.items in cc
-
-pub returns-in-2-clause-answer : goal.returns-in-2-clause-answer
-returns-in-2-clause-answer c = let e = sell_answer c.args.n c.args.self.now.legs.items in cc
-
-pub returns-in-2-clause-list : goal.returns-in-2-clause-list
-returns-in-2-clause-list c = let l = ap listed c.take_implied-in-2.ensures.after in let e = sold c.args.n c.args.self.now.legs.items in cc
+pub returns-clause-list : goal.returns-clause-list
+returns-clause-list c =
+    let l = ap listed c.take_implied.ensures.after in
+    let e = side_after c.args.place c.in_ok-side.side c.args.n c.args.self.now.legs.items cc in
+    cc
