@@ -14,8 +14,8 @@ use filling::interest::Interest;
 use market::refusal::Refusal;
 use std::marker::Model;
 
-// Lines of interest, not too many of them. In a contract they are their list. What is asked of them stands here; what
-// comes down to a level in `plans`, dealing to them in `levels`, the price of a block in `block`, crossing in `allocate`.
+// Lines of interest, not too many of them. In a contract they are their list. Their methods: what is asked of them here,
+// what comes down to a level in `plans`, dealing in `levels`, a block's price in `block`, crossing in `allocate`.
 #[derive(Drop)]
 pub(crate) struct Lines<'a> {
     pub lines: &'a [Interest],
