@@ -9,7 +9,7 @@ use market::fill::Fill;
 use market::names::Class;
 
 // The price of each line: its own, the order's for customers and its own for others, or one for all.
-// By hand: as a closure it could not be handed out of `pricing_of`, and taken in it would need a call for each kind.
+// An enum, since a closure could not be handed out of `pricing_of`.
 #[derive(Clone, Copy)]
 pub(crate) enum Pricing {
     Own,
@@ -19,7 +19,7 @@ pub(crate) enum Pricing {
 
 impl Pricing {
     // The price of a line.
-    fn of(self, line: &Line) -> i32
+    fn price(self, line: &Line) -> i32
         ensures { result ≡ paid self line.now }
     {
         match self {
@@ -30,7 +30,8 @@ impl Pricing {
     }
 }
 
-// A blotter, and how many of its lines are written.
+// A blotter, and how many of its lines are written. A writer, since the two move together; that the written lines fit is
+// required by `executed`, since a ghost field beside a `&mut` is not covered.
 #[derive(Drop)]
 pub(crate) struct Notes<'a> {
     blotter: &'a mut [Fill],
@@ -76,7 +77,7 @@ impl<'a> Notes<'a> {
         for (line, &contracts) in lines.iter().zip(fills) {
             self.note(Fill {
                 party: line.party,
-                price: pricing.of(line),
+                price: pricing.price(line),
                 contracts,
             });
         }

@@ -1,11 +1,14 @@
 // Lines as they are counted.
-ghost use Rattle.std.specs.Prelude.{◌≡◌, length, ◌≤ℤ◌};
+ghost use Rattle.std.specs.Prelude.{◌≡◌, ◌≤◌, length, ◌≤ℤ◌};
 ghost use Rattle.market.specs.Limits.{lowest_price};
+ghost use Rattle.deal.specs.Answers.{most_lines};
 ghost use Rattle.auction.specs.Gains.{gain};
 ghost use Rattle.auction.specs.Lines.{reserved_of, counted, interest_of, interest};
 
 use super::line::Line;
 use super::order::Order;
+use arrayvec::ArrayVec;
+use deal::terms::MOST_LINES;
 use filling::interest::Interest;
 use market::fill::Party;
 use market::names::{Class, Side};
@@ -50,12 +53,15 @@ fn interest_of(order: &Order, line: &Line) -> Interest
     }
 }
 
-// Writes the lines as they are counted.
-pub(crate) fn count(order: &Order, lines: &[Line], out: &mut [Interest])
-    requires { length out.old ≡ length lines.now }
-    ensures { out.new ≡ interest order.now lines.now }
+// The lines as they are counted.
+pub(crate) fn counted(order: &Order, lines: &[Line]) -> ArrayVec<Interest, MOST_LINES>
+    requires { length lines.now ≤ most_lines }
+    ensures { result.items ≡ interest order.now lines.now }
 {
-    for (i, line) in lines.iter().enumerate() {
-        out[i] = interest_of(order, line);
+    // By hand: a chain would end in `from_iter`, which can fail for want of room.
+    let mut counted = ArrayVec::new();
+    for line in lines {
+        counted.push(interest_of(order, line));
     }
+    counted
 }

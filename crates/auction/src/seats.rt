@@ -1,5 +1,6 @@
 // Lines in line order: entries of the pool by rising place, then responses, each member's slot once.
-ghost use Rattle.std.specs.Prelude.{◌≡◌, ◌<◌, true};
+ghost use Rattle.std.specs.Prelude.{◌≡◌, ◌*◌, ◌<◌, ◌↔◌, true, IsSome, IfSome};
+ghost use Rattle.auction.specs.Limits.{most_members, most_slots};
 ghost use Rattle.auction.specs.Lines.{next_place, stands_in_line, lawful};
 ghost use Rattle.auction.specs.Seats.{is_seat, seat_of, free_seat, may_follow, seats_after};
 
@@ -17,21 +18,25 @@ const SEATS: usize = MOST_MEMBERS as usize * MOST_SLOTS as usize;
 struct Seat {
     member: u8,
     slot: u8,
+    ghost there: { is_seat member slot ≡ true },
 }
 
 impl Seat {
-    // Whether there is such a slot.
-    fn exists(self) -> bool
-        ensures { result ≡ is_seat self.member self.slot }
+    // None where there is no such slot.
+    fn new(member: u8, slot: u8) -> Option<Seat>
+        ensures there { IsSome result ↔ (is_seat member slot ≡ true) }
+        ensures same { IfSome result (λ seat. (seat.member ≡ member) × (seat.slot ≡ slot)) }
     {
-        (1..=MOST_MEMBERS).contains(&self.member) && (1..=MOST_SLOTS).contains(&self.slot)
+        if !(1..=MOST_MEMBERS).contains(&member) || !(1..=MOST_SLOTS).contains(&slot) {
+            return None;
+        }
+        Some(Seat { member, slot })
     }
 
     // Its number, from 0.
     fn number(self) -> usize
-        requires { is_seat self.member self.slot ≡ true }
         ensures number { result ≡ seat_of self.member self.slot }
-        ensures within { result < 64 }
+        ensures within { result < most_members * most_slots }
     {
         usize::from(self.member - 1) * usize::from(MOST_SLOTS) + usize::from(self.slot - 1)
     }
@@ -45,11 +50,11 @@ struct Front {
 }
 
 impl Front {
-    // Whether there is such a seat, and nobody in front has it.
+    // Whether nobody in front has a seat.
     fn is_free(&self, seat: Seat) -> bool
         ensures { result ≡ free_seat self.now.taken seat.member seat.slot }
     {
-        seat.exists() && !self.taken[seat.number()]
+        !self.taken[seat.number()]
     }
 
     // Whether a party may stand next. If so, it is in front from now on.
@@ -67,7 +72,9 @@ impl Front {
                 stands
             }
             Party::Response { member, slot } => {
-                let seat = Seat { member, slot };
+                let Some(seat) = Seat::new(member, slot) else {
+                    return false;
+                };
                 let stands = self.is_free(seat);
                 if stands {
                     self.low = MOST_ENTRIES + 1;
@@ -88,7 +95,7 @@ fn in_line(lines: &[Line]) -> bool
         low: 1,
         taken: [false; SEATS],
     };
-    // By hand: `all` would take a closure that changes `front` at each line, and is no plainer.
+    // By hand: `all` would take a closure that changes `front`, of which nothing is then known after the call.
     for line in lines {
         if !front.admit(line.party) {
             return false;

@@ -1,5 +1,7 @@
 // Settling an order.
 ghost use Rattle.std.specs.Prelude.{◌≡◌, ◌≤◌, true, length};
+ghost use Rattle.deal.specs.Answers.{most_lines};
+ghost use Rattle.auction.specs.Limits.{least_blotter};
 ghost use Rattle.auction.specs.Lines.{interest, lawful};
 ghost use Rattle.auction.specs.Terms.{terms_of};
 ghost use Rattle.auction.specs.Pricing.{pricing_in};
@@ -7,7 +9,7 @@ ghost use Rattle.auction.specs.Settlement.{settlement, fills_of};
 ghost use Rattle.auction.specs.Answers.{answer_of, written_over, settle_answer, after_settle, Keeps};
 
 use super::blotter::{Notes, Pricing};
-use super::counting::{count, gain_at, reserved};
+use super::counting::{counted, gain_at, reserved};
 use super::limits::LEAST_BLOTTER;
 use super::line::Line;
 use super::order::Order;
@@ -37,7 +39,7 @@ fn terms_of(order: &Order) -> Terms
 // How the lines are priced: at their own prices, but customers at the order's in a facilitation that better lines do not
 // fill, and all at one price in a block.
 fn pricing_of(order: &Order, counted: &[Interest]) -> Pricing
-    requires { length counted.now ≤ 128 }
+    requires { length counted.now ≤ most_lines }
     ensures { result ≡ pricing_in order.now.mechanism order.now counted.now }
 {
     let gain = gain_at(order.side, order.price);
@@ -64,7 +66,7 @@ fn settle_counted(
     requires stand { lawful lines.now ≡ true }
     requires counted { counted.now ≡ interest order.now lines.now }
     requires long { length fills.old ≡ length lines.now }
-    requires room { 129 ≤ length blotter.old }
+    requires room { least_blotter ≤ length blotter.old }
     ensures answer { result ≡ answer_of (settlement order.now lines.now) }
     ensures after { blotter.new ≡ written_over (fills_of (settlement order.now lines.now)) blotter.old }
 {
@@ -93,16 +95,13 @@ pub fn settle(order: &Order, lines: &[Line], blotter: &mut [Fill]) -> Result<Set
     if blotter.len() < LEAST_BLOTTER {
         return Err(Refusal::BlotterShort);
     }
-    // By hand: an `ArrayVec` of lines would need a `Default` of `Interest`, which cannot be derived beside a ghost field.
-    let nobody = Interest {
-        gain: 0,
-        size: 0,
-        customer: false,
-        pooled: false,
-    };
-    let mut table = [nobody; MOST_LINES];
-    let counted = &mut table[..lines.len()];
-    count(order, lines, counted);
+    // A table, since `allocate` writes over the places that it is lent.
     let mut fills = [0u32; MOST_LINES];
-    Ok(settle_counted(order, lines, counted, &mut fills[..lines.len()], blotter))
+    Ok(settle_counted(
+        order,
+        lines,
+        &counted(order, lines),
+        &mut fills[..lines.len()],
+        blotter,
+    ))
 }

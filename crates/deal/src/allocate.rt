@@ -12,66 +12,68 @@ use market::fill::Reason;
 use market::names::Mechanism;
 use market::refusal::Refusal;
 
-// Facilitates an order: what the lines leave is the contra's.
-fn facilitate(terms: &Terms, lines: &Lines, out: &mut [u32]) -> Allocation
-    requires { length out.old ≡ length lines.now }
-    ensures answer { result ≡ allocation_of (facilitated terms.now.size terms.now.gain terms.now.reserved lines.now) }
-    ensures after { out.new ≡ fills_in out.old (facilitated terms.now.size terms.now.gain terms.now.reserved lines.now) }
-{
-    lines.deal(&Plan::Facilitated(*terms), out);
-    Ok(lines.rest_of(terms.size, terms.gain) - lines.shared_of(terms))
-}
-
-// Crosses a solicited order: better lines fill it, or lines from its gain on where a customer stands there, or the
-// contra takes all of it.
-fn solicit(terms: &Terms, lines: &Lines, out: &mut [u32]) -> Allocation
-    requires { length out.old ≡ length lines.now }
-    ensures answer { result ≡ allocation_of (solicited terms.now.size terms.now.gain lines.now) }
-    ensures after { out.new ≡ fills_in out.old (solicited terms.now.size terms.now.gain lines.now) }
-{
-    let Terms { size, gain, .. } = *terms;
-    if size <= lines.better(gain) {
-        lines.deal(&Plan::Down(size), out);
-        return Ok(0);
+impl<'a> Lines<'a> {
+    // Facilitates an order: what the lines leave is the contra's.
+    fn facilitate(&self, terms: &Terms, out: &mut [u32]) -> Allocation
+        requires { length out.old ≡ length self.now }
+        ensures answer { result ≡ allocation_of (facilitated terms.now.size terms.now.gain terms.now.reserved self.now) }
+        ensures after { out.new ≡ fills_in out.old (facilitated terms.now.size terms.now.gain terms.now.reserved self.now) }
+    {
+        self.deal(&Plan::Facilitated(*terms), out);
+        Ok(self.rest_of(terms.size, terms.gain) - self.shared_of(terms))
     }
-    if lines.customer_from(gain) {
-        if size > lines.at_least(gain) {
-            return Err(Reason::CustomerStands);
+
+    // Crosses a solicited order: better lines fill it, or lines from its gain on where a customer stands there, or the
+    // contra takes all of it.
+    fn solicit(&self, terms: &Terms, out: &mut [u32]) -> Allocation
+        requires { length out.old ≡ length self.now }
+        ensures answer { result ≡ allocation_of (solicited terms.now.size terms.now.gain self.now) }
+        ensures after { out.new ≡ fills_in out.old (solicited terms.now.size terms.now.gain self.now) }
+    {
+        let Terms { size, gain, .. } = *terms;
+        if size <= self.better(gain) {
+            self.deal(&Plan::Down(size), out);
+            return Ok(0);
         }
-        lines.deal(&Plan::Down(size), out);
-        return Ok(0);
+        if self.customer_from(gain) {
+            if size > self.at_least(gain) {
+                return Err(Reason::CustomerStands);
+            }
+            self.deal(&Plan::Down(size), out);
+            return Ok(0);
+        }
+        if self.pooled_over(gain) {
+            return Err(Reason::BetterStands);
+        }
+        out.fill(0);
+        Ok(size)
     }
-    if lines.pooled_over(gain) {
-        return Err(Reason::BetterStands);
-    }
-    out.fill(0);
-    Ok(size)
-}
 
-// Crosses a block: as much as can be executes with the lines.
-fn cross_block(terms: &Terms, lines: &Lines, out: &mut [u32]) -> Allocation
-    requires { length out.old ≡ length lines.now }
-    ensures answer { result ≡ allocation_of (blocked terms.now.size terms.now.gain lines.now) }
-    ensures after { out.new ≡ fills_in out.old (blocked terms.now.size terms.now.gain lines.now) }
-{
-    let standing = lines.at_least(terms.gain);
-    if standing == 0 {
-        return Err(Reason::NoInterest);
+    // Crosses a block: as much as can be executes with the lines.
+    fn cross_block(&self, terms: &Terms, out: &mut [u32]) -> Allocation
+        requires { length out.old ≡ length self.now }
+        ensures answer { result ≡ allocation_of (blocked terms.now.size terms.now.gain self.now) }
+        ensures after { out.new ≡ fills_in out.old (blocked terms.now.size terms.now.gain self.now) }
+    {
+        let standing = self.at_least(terms.gain);
+        if standing == 0 {
+            return Err(Reason::NoInterest);
+        }
+        self.deal(&Plan::Down(terms.size.min(standing)), out);
+        Ok(0)
     }
-    lines.deal(&Plan::Down(terms.size.min(standing)), out);
-    Ok(0)
-}
 
-// Crosses an order by its mechanism.
-fn cross(terms: &Terms, lines: &Lines, out: &mut [u32]) -> Allocation
-    requires { length out.old ≡ length lines.now }
-    ensures answer { result ≡ allocation_of (allocated terms.now lines.now) }
-    ensures after { out.new ≡ fills_in out.old (allocated terms.now lines.now) }
-{
-    match terms.mechanism {
-        Mechanism::Facilitation => facilitate(terms, lines, out),
-        Mechanism::Solicited => solicit(terms, lines, out),
-        Mechanism::Block => cross_block(terms, lines, out),
+    // Crosses an order by its mechanism.
+    fn cross(&self, terms: &Terms, out: &mut [u32]) -> Allocation
+        requires { length out.old ≡ length self.now }
+        ensures answer { result ≡ allocation_of (allocated terms.now self.now) }
+        ensures after { out.new ≡ fills_in out.old (allocated terms.now self.now) }
+    {
+        match terms.mechanism {
+            Mechanism::Facilitation => self.facilitate(terms, out),
+            Mechanism::Solicited => self.solicit(terms, out),
+            Mechanism::Block => self.cross_block(terms, out),
+        }
     }
 }
 
@@ -86,5 +88,5 @@ pub fn allocate(terms: &Terms, lines: &[Interest], out: &mut [u32]) -> Result<Al
         return Err(Refusal::OutOfLimits);
     }
     let lines = Lines::new(lines)?;
-    Ok(cross(terms, &lines, out))
+    Ok(lines.cross(terms, out))
 }

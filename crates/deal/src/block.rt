@@ -31,6 +31,7 @@ impl<'a> Lines<'a> {
         let as_many = self.executing_at(size, gain);
         let mut best = gain;
         let mut ceiling: Option<i32> = None;
+        // By hand: each line's test goes by both bounds, which a `fold` would carry as a pair.
         for line in self.lines {
             if between(best, ceiling, line.gain) {
                 if self.executing_at(size, line.gain) == as_many {

@@ -21,6 +21,7 @@ impl<'a> Lines<'a> {
     fn turns_at(&self, level: i32) -> ArrayVec<Turn, MOST_LINES>
         ensures { result.items ≡ turns_from level 0 self.now }
     {
+        // By hand: a chain would end in `from_iter`, which can fail for want of room.
         let mut turns = ArrayVec::new();
         for (place, line) in self.lines.iter().enumerate() {
             if is_other_at(line, level) {
@@ -68,6 +69,7 @@ impl<'a> Lines<'a> {
         ensures { (i : ℕ) (l : Interest) → slice_get self.now i ≡ Some l → slice_index out.new i ≡ (if other_at level l then slice_index (shares pot (sizes (other_at level) self.now)) (length (sizes (other_at level) (take i self.now))) else slice_index out.old i) }
     {
         let turns = self.turns_at(level);
+        // A table, since it is lent to the share-out, which writes over it.
         let mut counts = [0; MOST_LINES];
         let parts = &mut counts[..turns.len()];
         share_out(pot, &turns, parts).unwrap();
@@ -88,6 +90,7 @@ impl<'a> Lines<'a> {
         requires { length out.old ≡ length self.now }
         ensures { out.new ≡ planned plan.now self.now }
     {
+        // A `while`: each round asks for the next level below the last one.
         let mut bound: Option<i32> = None;
         while let Some(level) = self.best_below(bound) {
             self.deal_level(plan, level, out);

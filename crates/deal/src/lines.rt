@@ -14,7 +14,8 @@ use filling::interest::Interest;
 use market::refusal::Refusal;
 use std::marker::Model;
 
-// Lines of interest, not too many of them. In a contract they are their list.
+// Lines of interest, not too many of them. In a contract they are their list. Their methods: what is asked of them here,
+// what comes down to a level in `plans`, dealing in `levels`, a block's price in `block`, crossing in `allocate`.
 #[derive(Drop)]
 pub(crate) struct Lines<'a> {
     pub lines: &'a [Interest],

@@ -40,8 +40,8 @@ impl<'a> Lines<'a> {
     }
 }
 
-// An amount filled down, or an order with contracts reserved at its own gain. An enum, and no trait: two structs with two
-// methods each would say no more.
+// An amount filled down, or an order with contracts reserved at its own gain, whose mechanism is not looked at. An enum,
+// and no trait: two structs with two methods each would say no more.
 #[derive(Clone, Copy)]
 pub(crate) enum Plan {
     Down(u32),

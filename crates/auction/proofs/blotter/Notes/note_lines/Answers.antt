@@ -10,9 +10,9 @@ loop-line-preserved c =
     let z = Zip-more c.loop-line.line-iterator c.next.new.self c.next.result _ c.in-Some.is c.next.ensures.steps in
     let firsts = ap length z.0 in
     let seconds = ap length z.1 in
-    let price = to_z-of_z w32 c.of.result (record { sfits = c.of.type_inv }) in
-    let few = noted_few c.in-Some.line.now.party (to_z w32 (of_z w32 c.of.result)) c.in-Some.field-0-1.now in
-    let next = noted_next (paid c.args.pricing) c.in-Some.line.now c.in-Some.field-0-1.now (to_z w32 (of_z w32 c.of.result)) _ _ _ _ z.0 z.1 (price ∙ c.of.ensures) in
+    let price = to_z-of_z w32 c.price.result (record { sfits = c.price.type_inv }) in
+    let few = noted_few c.in-Some.line.now.party (to_z w32 (of_z w32 c.price.result)) c.in-Some.field-0-1.now in
+    let next = noted_next (paid c.args.pricing) c.in-Some.line.now c.in-Some.field-0-1.now (to_z w32 (of_z w32 c.price.result)) _ _ _ _ z.0 z.1 (price ∙ c.price.ensures) in
     record {
       can_next = (tt, tt);
       is_finite = tt;
