@@ -44,6 +44,7 @@ impl<X: Depth, Y: Depth> Depth for Pair<X, Y> {
 impl<X: Pool, Y: Pool> Pool for Pair<X, Y> {
     ghost took = { PairTook X.Depth.entries X.Pool.took Y.Pool.took };
 
+    // By hand, beside `entry`: one looks and one takes, and a type for which half it is would be matched on as often.
     fn take(&mut self, place: usize, n: u32) -> Result<(), Refusal> {
         if place > MOST_ENTRIES {
             return Err(Refusal::NotTakable);

@@ -26,7 +26,8 @@ impl Line {
         if !line_ok(price, size) {
             return Err(Refusal::OutOfLimits);
         }
-        // By hand: `try_from` tests the types' limits, which are wider than these, and `Entry::new` would want a side.
+        // By hand: `try_from` tests the types' limits, which are wider than these; and `Entry::new` wants a side, and lets sizes
+        // begin at 0.
         Ok(Line {
             party,
             price: price as i32,
