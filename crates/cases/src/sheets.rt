@@ -33,6 +33,7 @@ fn length_is_limited(rt: HostRuntime) -> Result<(), Fail> {
 #[test]
 fn words_have_their_places(rt: HostRuntime) -> Result<(), Fail> {
     let sheet = b"(house 1 series)\n;\n  (settle( at 5))";
+    // By hand: `expect` prints a fault, which has no `Debug`.
     let Ok(forms) = read(rt.alloc(), sheet) else {
         return Err(Fail::new("the sheet is legal"));
     };

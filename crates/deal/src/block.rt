@@ -16,15 +16,16 @@ fn between(best: i32, ceiling: Option<i32>, gain: i32) -> bool
 }
 
 impl<'a> Lines<'a> {
-    // How many contracts of an order execute at a gain.
+    // How many contracts of an order execute at a gain. Reads like `reaches`, but is the smaller of two numbers, where
+    // that is what one leaves of another.
     fn executing_at(&self, size: u32, gain: i32) -> u32
         ensures { result ≡ executing size self.now gain }
     {
         size.min(self.at_least(gain))
     }
 
-    // The best gain at which as many contracts execute as at the order's; each level is asked about once, since fewer
-    // execute from the ceiling on.
+    // The best gain at which the block executes as fully as at its own; each level is asked about once, since fewer
+    // contracts execute from the ceiling on.
     fn climb(&self, size: u32, gain: i32) -> i32
         ensures { result ≡ block_gain size gain self.now }
     {

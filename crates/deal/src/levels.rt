@@ -25,6 +25,7 @@ impl<'a> Lines<'a> {
         let mut turns = ArrayVec::new();
         for (place, line) in self.lines.iter().enumerate() {
             if is_other_at(line, level) {
+                // A place is below 128, so the cast is exact.
                 turns.push(Turn {
                     place: place as u32,
                     size: line.size,
@@ -57,6 +58,7 @@ impl<'a> Lines<'a> {
         requires places { length out.old ≡ length self.now }
         ensures { (i : ℕ) (l : Interest) → slice_get self.now i ≡ Some l → slice_index out.new i ≡ (if other_at level l then slice_index parts.now (length (sizes (other_at level) (take i self.now))) else slice_index out.old i) }
     {
+        // By place: a turn says where its line stands.
         for (turn, part) in turns.iter().zip(parts) {
             out[turn.place as usize] = *part;
         }

@@ -13,7 +13,7 @@ pub struct Interest {
     ghost few: { size ≤ most_size },
 }
 
-// What fills the unused places of an `ArrayVec` of lines.
+// What fills the unused places of an `ArrayVec` of lines. By hand: a struct with a ghost field derives none.
 impl Default for Interest {
     ghost is_default = { λ l. (l.gain ≡ pos 0) × (l.size ≡ 0) × (l.customer ≡ false) × (l.pooled ≡ false) };
 

@@ -5,7 +5,7 @@ ghost use Rattle.forms.specs.Shapes.{shape, is_house};
 use market::names::{Class, Edge, Leg, Mechanism, Side};
 use market::resting::Resting;
 
-// What a house trades: one series, or a net of legs.
+// What a house trades: one series, or a net of legs. By hand: None would not say that it is a series.
 #[derive(Drop)]
 pub enum Market {
     Series,

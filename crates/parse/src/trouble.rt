@@ -8,7 +8,8 @@ use forms::trouble::{Expected, Found, Trouble};
 use std::alloc::{AllocError, AllocFailed};
 use words::token::Token;
 
-// Why nothing was read: a fault in what stands there, or want of memory.
+// Why nothing was read: a fault in what stands there, or want of memory. By hand: `?` wants a `From` of it, which cannot
+// be written for a type of the library.
 #[derive(Clone, Copy)]
 pub enum Failed<E> {
     Fault(E),
@@ -26,6 +27,7 @@ impl From<Trouble> for Failed<Trouble> {
     }
 }
 
+// By hand, for each fault: one for all would overlap with those of want of memory.
 impl From<Fault> for Failed<Fault> {
     ghost from_gives = { λ f e. e ≡ failed.Fault f };
 

@@ -10,7 +10,7 @@ use market::entry::Entry;
 use market::limits::MOST_ENTRIES;
 use market::refusal::Refusal;
 
-// The first list, then the second, cut after the most entries that a depth lists.
+// Two lists as one: the second stands behind the first, as far as a depth's list may reach.
 #[derive(Drop)]
 pub struct Pair<A, B> {
     pub first: A,

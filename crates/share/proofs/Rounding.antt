@@ -118,7 +118,7 @@ module _ (a S : ℕ) where
   used_up : (n f s : ℕ) → f < s → f + extra n f s ≡ f → n - extra n f s ≡ 0
   used_up n f s h e = grind (arith, nat_tests)
 
-  topped_first : (n : ℕ) (ss : List ℕ) (i j : ℕ) → i < j → j < length ss → a * get_or ss i 0 / S < get_or ss i 0 → get_or (topped n a S ss) i 0 ≡ a * get_or ss i 0 / S → get_or (topped n a S ss) j 0 ≡ a * get_or ss j 0 / S
+  pub topped_first : (n : ℕ) (ss : List ℕ) (i j : ℕ) → i < j → j < length ss → a * get_or ss i 0 / S < get_or ss i 0 → get_or (topped n a S ss) i 0 ≡ a * get_or ss i 0 / S → get_or (topped n a S ss) j 0 ≡ a * get_or ss j 0 / S
   topped_first n [] i j h k w e = absurd (omega arith)
   topped_first n (s ∷ ss) i zero h k w e = absurd (omega arith)
   topped_first n (s ∷ ss) zero (suc j) h k w e =

@@ -31,7 +31,7 @@ fn measure<C: Claim>(claims: &[C]) -> Option<u32>
     if claims.len() > MOST_CLAIMS {
         return None;
     }
-    // By hand: the loop answers at the first claim outside its limits.
+    // By hand: an iterator that stops at the first claim outside its limits, and carries two numbers, is no plainer.
     let mut total: u32 = 0;
     let mut low: u64 = 0;
     for claim in claims {

@@ -12,6 +12,7 @@ fn full(rt: HostRuntime) -> Result<(), Fail> {
     let mut board = AwayBoard::new(rt.alloc())?;
     assert_eq!(rt; told(board.away(Side::Sell, 0)), 6);
     assert_eq!(rt; told(board.away(Side::Sell, 1_000_001)), 6);
+    // By hand: the numbers are the prices.
     for p in 1..17 {
         assert_eq!(rt; told(board.away(Side::Buy, p)), 0);
     }

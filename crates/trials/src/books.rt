@@ -32,6 +32,7 @@ fn fields(rt: HostRuntime) -> Result<(), Fail> {
 #[test]
 fn full(rt: HostRuntime) -> Result<(), Fail> {
     let mut book = Book::new(rt.alloc(), Kind::Series)?;
+    // By hand: the numbers are the orders'.
     for n in 1..49 {
         assert_eq!(rt; rest(&mut book, n, 100, 2), 0);
     }

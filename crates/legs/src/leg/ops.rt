@@ -95,7 +95,8 @@ impl LegQuotes {
         self.used(side).total() / self.ratio
     }
 
-    // Takes the contracts of n implied orders.
+    // Takes the contracts of n implied orders. By hand, here and in `replace`: a method that lends out a side by its edge
+    // is no plainer than two arms.
     pub(crate) fn take(&mut self, side: Side, n: u32)
         requires { n ≤ leg_size side (leg_held self.old) }
         ensures { leg_held self.new ≡ taken_leg side n (leg_held self.old) }

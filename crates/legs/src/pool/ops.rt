@@ -52,7 +52,7 @@ impl LegsMarket {
         if !(LEAST_LEGS..=MOST_LEGS).contains(&parts.len()) {
             return Err(Refusal::OutOfLimits);
         }
-        // By hand: the loop answers at the first leg that is refused.
+        // By hand: an iterator that stops at the first leg that is refused is no plainer than `?`.
         let mut legs = ArrayVec::new();
         for part in parts {
             let leg = LegQuotes::new(*part)?;

@@ -45,6 +45,7 @@ impl Order {
             return Err(Refusal::OutOfLimits);
         }
         let entry = Entry::new(new.side, new.price, new.size, new.class).unwrap();
+        // `rest_ok` has tested the number; `try_from` would test it again.
         Ok(Order {
             number: new.number as u16,
             entry,

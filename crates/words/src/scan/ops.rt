@@ -120,6 +120,7 @@ impl<'a> Scanner<'a> {
                 let start = *self;
                 let word = self.word();
                 if is_long(word) {
+                    // put back as it was
                     *self = start;
                     Token::LongWord(column)
                 } else {
