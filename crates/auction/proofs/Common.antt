@@ -30,7 +30,7 @@ use Rattle.auction.specs.Lines.{Stands, same_party, gain_of, stated_gain, counte
 use Rattle.auction.specs.Settlement.{executed, noted, note_all, blotted, total, received}
 use Rattle.auction.specs.Promises.{executes, Allowed, NobodyBeyond, Behind, CustomersFirst, CustomersInLine, BetterFirst, facilitator_share, for_others, LastPrice, CustomerThere, BetterThere, BlockPriced, Agreed, AgreedPrice, CrossedWhen, InOrder, Once, BlotterOrder, OneSettlement}
 use Rattle.auction.proofs.Noting.{all_nth, same_back, total_append, received_append, noted_either, total_noted, received_noted, total_all, received_none, received_at, each_noted, once_noted, once_more, order_noted}
-use Rattle.auction.proofs.Standing.{apart, no_contra, counted_either, counted_within, nth_more, nth_last, nth_mapped, nth_either}
+use Rattle.auction.proofs.Standing.{apart, no_contra, counted_size, reserved_share, counted_either, counted_within, nth_more, nth_last, nth_mapped, nth_either}
 
 one_of : (fs : List ℕ) (i : ℕ) → get_or fs i 0 ≤ sum fs
 one_of [] i = omega arith
@@ -213,14 +213,27 @@ module _ (o : Order) (ls : List Line) (lined : stands_in_line ls ≡ true)
       let h : 1 ≤ get_or fs s.0 0 = omega (arith, line_receives s.0 k s.1, p.reached.2) in
       subst (λ (w : ℤ). gain_of o ≤ℤ w) p.reached.3 (line_priced s.0 k s.1 h)
 
+  -- what a line's proportion of an amount is
+  abbrev part : ℤ → ℕ → Line → ℕ
+  part v amount k = amount * counted o k / others_at o ls v
+
+  own_level : (v : ℤ) (k : Line) → stated_gain o k ≡ v → is_customer k.class ≡ false → other_at v (interest_of o k) ≡ true
+  own_level v k g c = subst (λ (w : ℤ). other_at w (interest_of o k) ≡ true) g (own_other (interest_of o k) c)
+
   -- proportions of the fills are proportions of the blotter
   pub in_proportion : (v : ℤ) (amount : ℕ) → fairness.InProportion (interest o ls) fs v amount →
-      (k : Line) → Stands ls k → stated_gain o k ≡ v → is_customer k.class ≡ false →
-      (received k.party lines ≡ amount * counted o k / others_at o ls v) ⊎ (received k.party lines ≡ amount * counted o k / others_at o ls v + 1)
-  in_proportion v amount h k s g c =
-      let t : other_at v (interest_of o k) ≡ true = subst (λ (w : ℤ). other_at w (interest_of o k) ≡ true) g (own_other (interest_of o k) c) in
-      ⊎_elim (λ q. inl (line_receives s.0 k s.1 ∙ q)) (λ q. inr (line_receives s.0 k s.1 ∙ q))
-      (h s.0 (interest_of o k) (at s.0 k s.1) t)
+      ((k : Line) → Stands ls k → stated_gain o k ≡ v → is_customer k.class ≡ false →
+      (received k.party lines ≡ part v amount k) ⊎ (received k.party lines ≡ part v amount k + 1))
+      × ((i j : ℕ) (k l : Line) → slice_get ls i ≡ Some k → slice_get ls j ≡ Some l → i < j → stated_gain o k ≡ v → stated_gain o l ≡ v →
+      is_customer k.class ≡ false → is_customer l.class ≡ false → part v amount k < counted o k → received k.party lines ≡ part v amount k → received l.party lines ≡ part v amount l)
+  in_proportion v amount h = (
+    λ k s g c. ⊎_elim (λ q. inl (line_receives s.0 k s.1 ∙ q)) (λ q. inr (line_receives s.0 k s.1 ∙ q))
+        (h.0 s.0 (interest_of o k) (at s.0 k s.1) (own_level v k g c)),
+    λ i j k l ek el lt gk gl ck cl more e.
+        line_receives j l el ∙
+        h.1 i j (interest_of o k) (interest_of o l) (at i k ek) (at j l el) lt
+        (own_level v k gk ck) (own_level v l gl cl) more (sym (line_receives i k ek) ∙ e),
+  )
 
   -- where all are filled at one price
   pub all_priced : (price : ℤ) → ((k : Line) → pays k ≡ price) → contra ≡ 0 → AllByRecursion (λ f. f.price ≡ price) lines
@@ -257,6 +270,8 @@ module _ (o : Order) (ls : List Line) (lined : stands_in_line ls ≡ true)
     customers_first = customers_first;
     customers_in_line = customers_in_line;
     better_first = better_first d.best;
+    counted_sizes = counted_size o;
+    reserved_share = reserved_share o;
     facilitators_share = λ q. contra_receives ∙ d.share q;
     proportions = λ v p. in_proportion v (for_others o ls v) (d.proportions v (last_from v p) p);
     cancelled_when = record {

@@ -28,7 +28,7 @@ use Rattle.auction.specs.Lines.{Stands, gain_of, stated_gain, reserved_of, inter
 use Rattle.auction.specs.Settlement.{Outcome, cancelled, answered, own, facilitation_price, block_price, settle_as, settlement}
 use Rattle.auction.specs.Promises.{executes, Conserved, CustomerThere, BetterThere, left_at, reserved_taken, for_others, CancelledWhen, BlockPriced, Agreed, CrossedWhen, OneSettlement}
 use Rattle.auction.proofs.Noting.{order_none}
-use Rattle.auction.proofs.Standing.{nth_mapped}
+use Rattle.auction.proofs.Standing.{nth_mapped, counted_size, reserved_share}
 use Rattle.auction.proofs.Common as common
 
 pub gain_back : (s : Side) (v : ℤ) → gain s (gain s v) ≡ v
@@ -73,6 +73,8 @@ module _ (o : Order) (ls : List Line) (lined : stands_in_line ls ≡ true) where
     customers_first = λ k l sk sl u s b. refl;
     customers_in_line = λ i j k l ek el lt e ck cl s. refl;
     better_first = λ k l sk sl s w. refl;
+    counted_sizes = counted_size o;
+    reserved_share = reserved_share o;
     facilitators_share = λ q. absurd (no-fac q);
     proportions = λ v p. absurd (omega (arith, p.reached.2));
     cancelled_when = when;
@@ -238,7 +240,7 @@ module _ (o : Order) (ls : List Line) (lined : stands_in_line ls ≡ true) where
       })
 
   sol_conserved : o.mechanism ≡ Solicited → (r : Reason) → Conserved o ls (cancelled r)
-  sol_conserved m r = record { whole = omega arith; facilitation = λ q. cc; solicited = λ _. inr refl; block = λ q. cc }
+  sol_conserved m r = record { whole = omega arith; facilitation = λ q. cc; solicited = λ _. inr (r, refl); block = λ q. cc }
 
   -- nothing of it goes to the contra
   not_crossed : (((better_than o ls g < o.size) × (CustomerThere o ls → ⊥) × (BetterThere o ls → ⊥)) → ⊥) → CrossedWhen o ls []

@@ -1,5 +1,5 @@
 -- Who stands: nobody twice, and the contra apart.
-use Rattle.std.proofs.Common.{◌≡◌, ℕ, zero, suc, ◌+◌, ◌≤◌, min, true, false, not, ◌&&◌, ◌||◌, ◌⊎◌, List, [], ◌∷◌, ◌++◌, map, length, Some, sym, refl, ap, ◌∙◌, inl, inr, ⊎_elim, arith}
+use Rattle.std.proofs.Common.{◌≡◌, ℕ, zero, suc, ◌+◌, ◌≤◌, min, true, false, cond, not, ◌&&◌, ◌||◌, ◌⊎◌, List, [], ◌∷◌, ◌++◌, map, length, Some, sym, refl, ap, ◌∙◌, inl, inr, ⊎_elim, arith}
 use Rattle.std.specs.List.{AllByRecursion, slice_get}
 use Rattle.std.proofs.ByRecursion.{All-weaker}
 use Rattle.std.proofs.lemmas.List.Recursion.{or_push}
@@ -16,6 +16,7 @@ use Rattle.auction.specs.declared.line.Line.{Line}
 use Rattle.auction.specs.Limits.{most_members, most_slots}
 use Rattle.auction.specs.Gains.{is_pooled}
 use Rattle.auction.specs.Lines.{same_party, counted, has_line, may_stand, next_place, in_line_from, stands_in_line}
+use Rattle.auction.specs.Promises.{CountedSize, ReservedShare}
 use Rattle.auction.proofs.Noting.{Apart, Others, same_back}
 
 -- one who may stand behind lines, where entries stand from the place low on
@@ -123,3 +124,14 @@ nth_either [] y zero x e = inr (let s : y ≡ x = cc in s)
 nth_either [] y (suc i) x e = cc
 nth_either (z ∷ xs) y zero x e = inl e
 nth_either (z ∷ xs) y (suc i) x e = nth_either xs y i x e
+
+-- what counts of a line
+pub counted_size : (o : Order) (k : Line) → CountedSize o k
+counted_size o k = record {
+  pooled = λ p. ap (λ b. cond b k.size (min k.size o.size)) p;
+  response = λ p. ap (λ b. cond b k.size (min k.size o.size)) p;
+}
+
+-- the reserved share is the reserve, rounded up
+pub reserved_share : (o : Order) → ReservedShare o
+reserved_share o = record { enough = omega arith; least = omega arith }

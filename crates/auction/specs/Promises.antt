@@ -29,7 +29,7 @@ pub record Conserved (o : Order) (ls : List Line) (out : Outcome) : Type 0 where
   -- a facilitated order is filled whole
   pub facilitation : o.mechanism ≡ Facilitation → filled_by out ≡ o.size
   -- a solicited order whole or not at all
-  pub solicited : o.mechanism ≡ Solicited → (filled_by out ≡ o.size) ⊎ (fills_of out ≡ [])
+  pub solicited : o.mechanism ≡ Solicited → (filled_by out ≡ o.size) ⊎ ((r : Reason) × (out ≡ cancelled r))
   -- a block by the smaller of its size and the interest at its price or better
   pub block : o.mechanism ≡ Block → filled_by out ≡ executes o ls (gain_of o)
 
@@ -74,10 +74,24 @@ CustomersInLine o ls fs = (i j : ℕ) (k l : Line) → slice_get ls i ≡ Some k
 
 -- BETTER PRICES FIRST
 
--- where any line is left short of its standing size, no line at a worse price receives a contract; the contra aside
+-- while somebody still lacks contracts that it stands with, nobody at a worse price is filled, but the contra
 abbrev pub BetterFirst : Order → List Line → List Fill → Type 0
 BetterFirst o ls fs = (k l : Line) → Stands ls k → Stands ls l →
     received k.party fs < k.size → stated_gain o l <ℤ stated_gain o k → received l.party fs ≡ 0
+
+-- WHAT COUNTS
+
+-- an entry of the pool counts with all that stands, a response with the order's size at most
+pub record CountedSize (o : Order) (k : Line) : Type 0 where
+  pub pooled : is_pooled k.party ≡ true → counted o k ≡ k.size
+  pub response : is_pooled k.party ≡ false → counted o k ≡ min k.size o.size
+
+-- THE RESERVED SHARE
+
+-- the fewest contracts that are at least the reserve in percent of the order
+pub record ReservedShare (o : Order) : Type 0 where
+  pub enough : o.size * o.reserve ≤ 100 * reserved_of o
+  pub least : 100 * reserved_of o < o.size * o.reserve + 100
 
 -- THE FACILITATOR'S SHARE
 
@@ -105,11 +119,18 @@ reserved_taken o ls = cond (is_facilitation o.mechanism) (min (left_at o ls (gai
 abbrev pub for_others : Order → List Line → ℤ → ℕ
 for_others o ls v = min (others_at o ls v) (left_at o ls v - reserved_taken o ls)
 
--- each line of class other at the gain v receives its proportion of that in whole contracts, or one more
+-- the proportion of it that a line of class other has in whole contracts
+abbrev pub proportion : Order → List Line → ℤ → Line → ℕ
+proportion o ls v k = for_others o ls v * counted o k / others_at o ls v
+
+-- Each line of class other at the gain v receives its proportion, or one contract more; where one that wants more receives
+-- just its proportion, so does each behind it.
 abbrev pub InProportion : Order → List Line → List Fill → ℤ → Type 0
-InProportion o ls fs v = (k : Line) → Stands ls k → stated_gain o k ≡ v → is_customer k.class ≡ false →
-    (received k.party fs ≡ for_others o ls v * counted o k / others_at o ls v)
-    ⊎ (received k.party fs ≡ for_others o ls v * counted o k / others_at o ls v + 1)
+InProportion o ls fs v =
+    ((k : Line) → Stands ls k → stated_gain o k ≡ v → is_customer k.class ≡ false →
+    (received k.party fs ≡ proportion o ls v k) ⊎ (received k.party fs ≡ proportion o ls v k + 1))
+    × ((i j : ℕ) (k l : Line) → slice_get ls i ≡ Some k → slice_get ls j ≡ Some l → i < j → stated_gain o k ≡ v → stated_gain o l ≡ v →
+    is_customer k.class ≡ false → is_customer l.class ≡ false → proportion o ls v k < counted o k → received k.party fs ≡ proportion o ls v k → received l.party fs ≡ proportion o ls v l)
 
 -- CANCELLED EXACTLY WHEN
 
@@ -186,7 +207,7 @@ Once [] = Unit {0}
 Once (f ∷ fs) = AllByRecursion (λ h. same_party f.party h.party ≡ false) fs × Once fs
 
 pub record BlotterOrder (o : Order) (ls : List Line) (fs : List Fill) : Type 0 where
-  -- entries by place, responses in line order, the contra last
+  -- fills stand as their lines do, the contra behind them
   pub in_order : InOrder (ls ++ contra_of o ∷ []) fs
   pub once : Once fs
   -- no line of zero
@@ -200,6 +221,8 @@ pub record OneSettlement (o : Order) (ls : List Line) (out : Outcome) : Type 0 w
   pub customers_first : CustomersFirst o ls (fills_of out)
   pub customers_in_line : CustomersInLine o ls (fills_of out)
   pub better_first : BetterFirst o ls (fills_of out)
+  pub counted_sizes : (k : Line) → CountedSize o k
+  pub reserved_share : ReservedShare o
   pub facilitators_share : o.mechanism ≡ Facilitation → received Contra (fills_of out) ≡ facilitator_share o ls
   pub proportions : (v : ℤ) → LastPrice o ls (fills_of out) v → InProportion o ls (fills_of out) v
   pub cancelled_when : CancelledWhen o ls out

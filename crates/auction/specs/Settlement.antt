@@ -43,7 +43,7 @@ own l = l.price
 abbrev pub facilitation_price : Order → List Line → Line → ℤ
 facilitation_price o ls l = cond (is_customer l.class && nat_lt (better_than o ls (gain_of o)) o.size) o.price l.price
 
--- and in a block all at one price: the best at which as many contracts execute as at the order's.
+-- and in a block all at one price: the best of those at which the block executes as fully as at its own.
 abbrev pub block_price : Order → List Line → ℤ
 block_price o ls = gain o.side (count.block_gain o.size (gain_of o) (interest o ls))
 

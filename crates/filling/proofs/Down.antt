@@ -10,7 +10,7 @@ use Rattle.filling.specs.Fair.{Within, BestFirst, CustomersFirst}
 use Rattle.filling.specs.Laws.{FilledDown}
 use Rattle.filling.proofs.Counting.{contracts_cons, contracts_split, level_splits}
 use Rattle.filling.proofs.Ladder.{dealt_long, fill_down_above, fill_down_total}
-use Rattle.filling.proofs.Places.{own_customer, own_other, customer_short, other_short, other_none, other_proportion, none_here, within_here, full_here, dealt_in_line}
+use Rattle.filling.proofs.Places.{own_customer, own_other, customer_short, other_short, other_none, other_proportion, none_here, within_here, full_here, dealt_in_line, dealt_odd_first}
 
 pub contracts_under : (p q r : Interest → Bool) → ((l : Interest) (x : ℕ) → cond (q l) x 0 + cond (r l) x 0 ≤ cond (p l) x 0) → (ls : List Interest) → contracts q ls + contracts r ls ≤ contracts p ls
 contracts_under p q r s [] = omega arith
@@ -66,5 +66,5 @@ filling = record {
   best_first = fill_down_best;
   customers_first = fill_down_customers;
   in_line = λ a ls. dealt_in_line (reaching a ls) (left_over a ls) ls;
-  in_proportion = λ a ls v i l e t. other_proportion (reaching a ls) (left_over a ls) ls i l e v t;
+  in_proportion = λ a ls v. ((λ i l e t. other_proportion (reaching a ls) (left_over a ls) ls i l e v t), dealt_odd_first (reaching a ls) (left_over a ls) ls v);
 }

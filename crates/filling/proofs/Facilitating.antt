@@ -14,7 +14,7 @@ use Rattle.filling.specs.Rules.{Fair, Facilitation}
 use Rattle.filling.proofs.Counting.{Splits, contracts_split, filled_split, level_splits}
 use Rattle.filling.proofs.Ladder.{Down, down_to, dealt_long, all_filled}
 use Rattle.filling.proofs.Levels.{level_gets}
-use Rattle.filling.proofs.Places.{own_customer, own_other, customer_short, other_none, other_proportion, none_here, within_here, full_here, dealt_in_line}
+use Rattle.filling.proofs.Places.{own_customer, own_other, customer_short, other_none, other_proportion, none_here, within_here, full_here, dealt_in_line, dealt_odd_first}
 use Rattle.filling.proofs.Down.{level_and_above}
 
 abbrev worse : ℤ → Interest → Bool
@@ -178,5 +178,5 @@ facilitation = record {
   facilitator = λ Z g r ls. omega arith;
   better_suffice = better_suffice;
   better_filled = better_filled;
-  in_proportion = λ Z g r ls v i l e t. other_proportion (fac_room Z g ls) (fac_pot Z g r ls) ls i l e v t;
+  in_proportion = λ Z g r ls v. ((λ i l e t. other_proportion (fac_room Z g ls) (fac_pot Z g r ls) ls i l e v t), dealt_odd_first (fac_room Z g ls) (fac_pot Z g r ls) ls v);
 }

@@ -1,11 +1,11 @@
 -- What the line at a place gets.
-use Rattle.std.proofs.Common.{◌≡◌, ℕ, zero, suc, ◌+◌, ◌-◌, ◌*◌, ◌/◌, ◌<◌, ◌≤◌, min, Bool, true, false, not, ◌⊎◌, List, [], ◌∷◌, ◌++◌, length, get_or, take, drop, ℤ, Some, sym, refl, ap, ◌∙◌, inl, inr, ⊎_elim, append_assoc, append-nil, arith, length-append}
+use Rattle.std.proofs.Common.{◌≡◌, ℕ, zero, suc, ◌+◌, ◌-◌, ◌*◌, ◌/◌, ◌<◌, ◌≤◌, min, Bool, true, false, cond, not, subst, ◌⊎◌, List, [], ◌∷◌, ◌++◌, length, get_or, take, drop, ℤ, Some, sym, refl, ap, ◌∙◌, inl, inr, ⊎_elim, append_assoc, append-nil, arith, length-append}
 use Rattle.std.specs.List.{slice_get}
 use Rattle.std.proofs.lemmas.List.{get_or_at}
 use Rattle.std.proofs.lemmas.Int.{ints}
 use Rattle.std.proofs.lemmas.Bool.{and_from, cases_Bool, cond-true, not_from_false, cases_lt}
 use Rattle.share.specs.Shares.{shares}
-use Rattle.filling.proofs.Sharing.{none_over, in_full, none_given, in_proportion}
+use Rattle.filling.proofs.Sharing.{none_over, in_full, none_given, in_proportion, first_in_line}
 use Rattle.filling.specs.declared.interest.Interest.{Interest}
 use Rattle.filling.specs.Totals.{level, customer_at, other_at, sizes, contracts}
 use Rattle.filling.specs.Filling.{fill, fills_from, dealt}
@@ -129,6 +129,35 @@ before_more p (x ∷ ls) zero (suc j) k e h t =
     omega (arith, contracts_cons p x (take j ls), cond-true (p x) x.size 0 (ap p s ∙ t), ap (λ (y : Interest). y.size) s)
 before_more p (x ∷ ls) (suc i) (suc j) k e h t =
     omega (arith, contracts_cons p x (take i ls), contracts_cons p x (take j ls), before_more p ls i j k e (omega arith) t)
+
+count_cons : (p : Interest → Bool) (l : Interest) (ls : List Interest) → length (sizes p (l ∷ ls)) ≡ cond (p l) 1 0 + length (sizes p ls)
+count_cons p l ls = elim (p l) as (λ b. length (cond b (l.size ∷ sizes p ls) (sizes p ls)) ≡ cond b 1 0 + length (sizes p ls)) [ true ↦ omega arith | false ↦ omega arith ]
+
+count_before : (p : Interest → Bool) (ls : List Interest) (i j : ℕ) (k : Interest) → slice_get ls i ≡ Some k → i < j → p k ≡ true → length (sizes p (take i ls)) < length (sizes p (take j ls))
+count_before p [] i j k e h t = absurd (let z : ◌≡◌ {A = ℕ} 0 1 = cc in let y : ⊥ = omega arith in y)
+count_before p (x ∷ ls) i zero k e h t = absurd (let z : ⊥ = omega arith in z)
+count_before p (x ∷ ls) zero (suc j) k e h t =
+    let s : x ≡ k = cc in
+    omega (arith, count_cons p x (take j ls), cond-true {A = ℕ} (p x) 1 0 (ap p s ∙ t))
+count_before p (x ∷ ls) (suc i) (suc j) k e h t =
+    omega (arith, count_cons p x (take i ls), count_cons p x (take j ls), count_before p ls i j k e (omega arith) t)
+
+-- of two others of a level, the one behind has no odd contract where the one in front goes without one that it wants
+pub dealt_odd_first : (room pot : ℤ → ℕ) (ls : List Interest) (v : ℤ) (i j : ℕ) (k l : Interest) → slice_get ls i ≡ Some k → slice_get ls j ≡ Some l → i < j →
+    other_at v k ≡ true → other_at v l ≡ true → pot v * k.size / contracts (other_at v) ls < k.size →
+    get_or (dealt room pot ls) i 0 ≡ pot v * k.size / contracts (other_at v) ls → get_or (dealt room pot ls) j 0 ≡ pot v * l.size / contracts (other_at v) ls
+dealt_odd_first room pot ls v i j k l ek el lt tk tl h e =
+    let ss = sizes (other_at v) ls in
+    let S = contracts (other_at v) ls in
+    let m = length (sizes (other_at v) (take i ls)) in
+    let n = length (sizes (other_at v) (take j ls)) in
+    let sk = size_here room pot ls i k ek (other_at v) tk in
+    let sl = size_here room pot ls j l el (other_at v) tl in
+    let more : pot v * get_or ss m 0 / S < get_or ss m 0 = subst (λ (y : ℕ). pot v * y / S < y) (sym sk) h in
+    let part : get_or (shares (pot v) ss) m 0 ≡ pot v * get_or ss m 0 / S = sym (other_gets room pot ls i k ek v tk) ∙ e ∙ sym (ap (λ y. pot v * y / S) sk) in
+    other_gets room pot ls j l el v tl ∙
+    first_in_line (pot v) ss m n (count_before (other_at v) ls i j k ek lt tk) (place_here room pot ls j l el (other_at v) tl) more part ∙
+    ap (λ y. pot v * y / S) sl
 
 pub dealt_in_line : (room pot : ℤ → ℕ) (ls : List Interest) → InLine ls (dealt room pot ls)
 dealt_in_line room pot ls i j k l ek el lt same ck cl h =

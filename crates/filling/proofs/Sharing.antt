@@ -2,7 +2,7 @@
 use Rattle.std.proofs.Common.{◌≡◌, ℕ, suc, ◌+◌, ◌-◌, ◌*◌, ◌/◌, ◌<◌, ◌≤◌, ◌⊎◌, List, [], ◌∷◌, length, get_or, sum, refl, ap, ◌∙◌, arith}
 use Rattle.std.proofs.lemmas.List.Sums.{sum_by-cons}
 use Rattle.share.specs.Shares.{floors, shares}
-use Rattle.share.proofs.Rounding.{topped_length, topped_near, get_d_sum, fair}
+use Rattle.share.proofs.Rounding.{topped_length, topped_near, topped_first, get_d_sum, fair}
 
 -- there is a share for each claim
 pub one_each : (a : ℕ) (ss : List ℕ) → length (shares a ss) ≡ length ss
@@ -20,6 +20,11 @@ none_over a ss k h = (fair a ss h).within k
 pub in_proportion : (a : ℕ) (ss : List ℕ) (k : ℕ) → k < length ss →
     (get_or (shares a ss) k 0 ≡ a * get_or ss k 0 / sum ss) ⊎ (get_or (shares a ss) k 0 ≡ a * get_or ss k 0 / sum ss + 1)
 in_proportion a ss k h = topped_near a (sum ss) (a - sum (floors a (sum ss) ss)) ss k h
+
+-- where one that wants more has just its part, so has each behind it
+pub first_in_line : (a : ℕ) (ss : List ℕ) (i j : ℕ) → i < j → j < length ss → a * get_or ss i 0 / sum ss < get_or ss i 0 →
+    get_or (shares a ss) i 0 ≡ a * get_or ss i 0 / sum ss → get_or (shares a ss) j 0 ≡ a * get_or ss j 0 / sum ss
+first_in_line a ss i j = topped_first a (sum ss) (a - sum (floors a (sum ss) ss)) ss i j
 
 -- nothing gives nobody anything
 pub none_given : (ss : List ℕ) (k : ℕ) → get_or (shares 0 ss) k 0 ≡ 0

@@ -31,7 +31,15 @@ abbrev pub InLine : List Interest → List ℕ → Type 0
 InLine ls fs = (i j : ℕ) (k l : Interest) → slice_get ls i ≡ Some k → slice_get ls j ≡ Some l → i < j → k.gain ≡ l.gain →
     k.customer ≡ true → l.customer ≡ true → slice_index fs i < k.size → slice_index fs j ≡ 0
 
--- each line of the level v that is no customer's has its proportion of an amount in whole contracts, or one more
+-- a line's proportion of an amount in whole contracts
+abbrev pub proportion : List Interest → ℤ → ℕ → Interest → ℕ
+proportion ls v amount l = amount * l.size / contracts (other_at v) ls
+
+-- Each line of the level v that is no customer's has its proportion of an amount, or one contract more; where one that
+-- wants more has just its proportion, so has each behind it.
 abbrev pub InProportion : List Interest → List ℕ → ℤ → ℕ → Type 0
-InProportion ls fs v amount = (i : ℕ) (l : Interest) → slice_get ls i ≡ Some l → other_at v l ≡ true →
-    (slice_index fs i ≡ amount * l.size / contracts (other_at v) ls) ⊎ (slice_index fs i ≡ amount * l.size / contracts (other_at v) ls + 1)
+InProportion ls fs v amount =
+    ((i : ℕ) (l : Interest) → slice_get ls i ≡ Some l → other_at v l ≡ true →
+    (slice_index fs i ≡ proportion ls v amount l) ⊎ (slice_index fs i ≡ proportion ls v amount l + 1))
+    × ((i j : ℕ) (k l : Interest) → slice_get ls i ≡ Some k → slice_get ls j ≡ Some l → i < j → other_at v k ≡ true → other_at v l ≡ true →
+    proportion ls v amount k < k.size → slice_index fs i ≡ proportion ls v amount k → slice_index fs j ≡ proportion ls v amount l)

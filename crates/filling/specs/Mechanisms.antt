@@ -72,7 +72,7 @@ solicited Z g ls =
     (cond (nat_le Z (contracts (at_least g) ls)) (executed (fill_down Z ls) 0) (cancelled CustomerStands))
     (cond (some (pooled_over g) ls) (cancelled BetterStands) (executed (nothing ls) Z)))
 
--- BLOCK. As much as can be is filled down, at the best price at which as many contracts execute as at the order's.
+-- BLOCK. As much as can be is filled down, all at one price: the best that loses no contract the order's own would get.
 
 -- how many contracts execute at the gain v
 abbrev pub executing : ℕ → List Interest → ℤ → ℕ
