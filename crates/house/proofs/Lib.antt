@@ -1,0 +1,3 @@
+pub mod Along
+pub mod Made
+pub mod Allowed

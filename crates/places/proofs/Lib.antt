@@ -1,0 +1,4 @@
+pub mod Apart
+pub mod InTurn
+pub mod Turn
+pub mod Copied

@@ -1,0 +1,4 @@
+pub mod Turns
+pub mod Standing
+pub mod Held
+pub mod Table
