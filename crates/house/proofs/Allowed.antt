@@ -59,7 +59,7 @@ pub enter_done : (h : Held) (e : Entering) (pool away : List Entry) → allowed 
     (last end : ℤ) (order : Order) (line : List Line) (all : ℕ) → last ≡ e.at → end ≡ e.at +ℤ e.time → order ≡ entered_order e → line ≡ [] → all ≡ h.entered + order.size →
     record h { last = last; started = h.started + 1; running = Some (record { order = order; end = end }); line = line; entered = all } ≡ (enter_step h e pool away).after
 enter_done h e pool away ok last end order line all a b d f s =
-    let done : Step Bears = record { answer = Ok (record { house = h.number; auction = h.started + 1 }); after = entered h e } in
+    let done : Step Bears = record { answer = Ok (record { house = h.number; auction = h.started + 1; spent = false }); after = entered h e } in
     (λ i. record h { last = a i; started = h.started + 1; running = Some (record { order = d i; end = b i }); line = f i; entered = (s ∙ ap (λ (o : Order). h.entered + o.size) d) i })
     ∙ sym (ap (λ r. (granted r h done).after) ok)
 

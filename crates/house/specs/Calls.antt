@@ -74,7 +74,7 @@ entered h e = record h {
 abbrev pub enter_step : Held → Entering → List Entry → List Entry → Step Bears
 enter_step h e pool away =
     granted (allowed (enter_rows h e pool away)) h
-    (record { answer = Ok (record { house = h.number; auction = h.started + 1 }); after = entered h e })
+    (record { answer = Ok (record { house = h.number; auction = h.started + 1; spent = false }); after = entered h e })
 
 -- RESPOND, AMEND and DELETE
 

@@ -28,7 +28,7 @@ view h = record {
 }
 
 abbrev pub bears : Ticket → Bears
-bears t = record { house = t.house; auction = t.auction }
+bears t = record { house = t.house; auction = t.auction; spent = t.spent }
 
 -- what stands in a member's slot
 abbrev pub offer_of : Line → Offer

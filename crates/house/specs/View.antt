@@ -1,5 +1,5 @@
 -- A house as its callers may think of it.
-use Rattle.std.specs.Prelude.{ℕ, List, [], ℤ, pos, Some, None, Option}
+use Rattle.std.specs.Prelude.{ℕ, Bool, List, [], ℤ, pos, Some, None, Option}
 use Rattle.market.specs.declared.names.Kind.{Kind}
 use Rattle.auction.specs.declared.order.Order.{Order}
 use Rattle.auction.specs.declared.line.Line.{Line}
@@ -47,7 +47,8 @@ abbrev pub end_of : Option Auction → ℤ
 end_of None = pos 0
 end_of (Some a) = a.end
 
--- a ticket: the house's number, and the auction's, counted from 1
+-- a ticket: the house's number, the auction's, counted from 1, and whether it was spent
 pub record Bears : Type 0 where
   pub house : ℕ
   pub auction : ℕ
+  pub spent : Bool
