@@ -1,10 +1,16 @@
 -- From an allocation to the blotter.
-use Rattle.std.proofs.Common.{◌≡◌, ℕ, ◌<◌, ◌≤◌, Bool, true, false, cond, ◌&&◌, ltb, leb, List, length, drop, ℤ, Ok, Result, sym, refl, ap, ◌∙◌, subst, arith}
+use Rattle.std.proofs.Common.{◌≡◌, ℕ, ◌<◌, ◌≤◌, Bool, true, false, cond, ◌&&◌, eqb, ltb, leb, List, [], ◌∷◌, length, drop, ℤ, ◌≤ℤ◌, Ok, Result, sym, refl, ap, ◌∙◌, subst, arith}
 use mathlib.Core.Path.{fun_ext}
+use lib.Signed.{lt_z}
+use Rattle.std.specs.List.{AllByRecursion}
 use Rattle.std.proofs.Math.Seq.{take-append_seam}
 use Rattle.std.proofs.lemmas.List.{length-map}
-use Rattle.std.proofs.lemmas.Bool.{and_parts, and_right, cond-true, cond-false}
+use Rattle.std.proofs.lemmas.Int.{ints}
+use Rattle.std.proofs.lemmas.Bool.{and_parts, and_right, cond-true, cond-false, cond_both}
 use Rattle.std.proofs.lemmas.Bool.Decides.{nat_tests}
+use Rattle.market.specs.Limits.{lowest_price, highest_price}
+use Rattle.market.specs.declared.names.Side.{Side}
+use Rattle.market.specs.declared.names.Side.TheVariants.{Buy, Sell}
 use Rattle.market.specs.declared.names.Mechanism.{Mechanism}
 use Rattle.market.specs.declared.names.Mechanism.TheVariants.{Block, Facilitation, Solicited}
 use Rattle.market.specs.declared.fill.Fill.{Fill}
@@ -19,14 +25,37 @@ use Rattle.auction.specs.declared.line.Line.{Line}
 use Rattle.auction.specs.declared.blotter.Pricing.{Pricing}
 use Rattle.auction.specs.declared.blotter.Pricing.TheVariants.{Own, CustomersAt}
 use Rattle.auction.specs.declared.settled.Executed.{Executed}
-use Rattle.auction.specs.Gains.{is_customer}
+use Rattle.auction.specs.Gains.{gain, is_customer}
 use Rattle.auction.specs.Lines.{gain_of, interest_of, interest, better_than, stands_in_line, lawful}
-use Rattle.auction.specs.Pricing.{paid, pricing_in}
+use Rattle.auction.specs.Pricing.{paid, pricing_in, Priced}
 use Rattle.auction.specs.Settlement.{Outcome, executed, cancelled, answered, blotted, price_in, settlement, fills_of, total}
 use Rattle.auction.specs.Terms.{terms_of}
 use Rattle.auction.specs.Promises.{OneSettlement}
 use Rattle.auction.specs.Answers.{answer_of, written_over, Keeps}
 use Rattle.auction.proofs.Kept.{settlement_keeps}
+
+-- the gain at a price within the limits is within them
+pub gain_within : (s : Side) (p : ℤ) → lowest_price ≤ℤ p → p ≤ℤ highest_price → (lowest_price ≤ℤ gain s p) × (gain s p ≤ℤ highest_price)
+gain_within Sell p l h = (l, h)
+gain_within Buy p l h = (omega (arith, ints), omega (arith, ints))
+
+pub all_priced : (o : Order) (ls : List Line) → AllByRecursion Priced (interest o ls)
+all_priced o [] = tt
+all_priced o (l ∷ ls) = let w = gain_within o.side l.price l.low l.high in (record { low = w.0; high = w.1 }, all_priced o ls)
+
+-- the block's gain is one of the gains
+best_priced : (Z : ℕ) (g : ℤ) (is : List Interest) (b : ℤ) (xs : List Interest) → lowest_price ≤ℤ b → b ≤ℤ highest_price → AllByRecursion Priced xs →
+    (lowest_price ≤ℤ count.best_from Z g is b xs) × (count.best_from Z g is b xs ≤ℤ highest_price)
+best_priced Z g is b [] l h a = (l, h)
+best_priced Z g is b (x ∷ xs) l h a =
+    let t = lt_z b x.gain && eqb (count.executing Z is x.gain) (count.executing Z is g) in
+    best_priced Z g is (cond t x.gain b) xs
+    (cond_both t x.gain b (λ v. lowest_price ≤ℤ v) (λ _. a.0.low) (λ _. l))
+    (cond_both t x.gain b (λ v. v ≤ℤ highest_price) (λ _. a.0.high) (λ _. h)) a.1
+
+pub block_priced : (o : Order) (is : List Interest) → AllByRecursion Priced is →
+    (lowest_price ≤ℤ count.block_gain o.size (gain_of o) is) × (count.block_gain o.size (gain_of o) is ≤ℤ highest_price)
+block_priced o is a = let w = gain_within o.side o.price o.low o.high in best_priced o.size (gain_of o) is (gain_of o) is w.0 w.1 a
 
 pub few_lines : (ls : List Line) → lawful ls ≡ true → length ls ≤ 128
 few_lines ls stand = grind (arith, nat_tests)

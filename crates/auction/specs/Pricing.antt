@@ -1,5 +1,6 @@
 -- The price of each line.
-use Rattle.std.specs.Prelude.{cond, List, ℤ, nat_lt}
+use Rattle.std.specs.Prelude.{cond, List, ℤ, ◌≤ℤ◌, nat_lt}
+use Rattle.market.specs.Limits.{lowest_price, highest_price}
 use Rattle.market.specs.declared.names.Mechanism.{Mechanism}
 use Rattle.market.specs.declared.names.Mechanism.TheVariants.{Block, Facilitation, Solicited}
 use Rattle.filling.specs.declared.interest.Interest.{Interest}
@@ -23,3 +24,8 @@ abbrev pub pricing_in : Mechanism → Order → List Interest → Pricing
 pricing_in Facilitation o is = cond (nat_lt (contracts (better (gain_of o)) is) o.size) (CustomersAt o.price) Own
 pricing_in Solicited o is = Own
 pricing_in Block o is = AllAt (gain o.side (block_gain o.size (gain_of o) is))
+
+-- a gain at a price within the limits
+pub record Priced (i : Interest) : Type 0 where
+  pub low : lowest_price ≤ℤ i.gain
+  pub high : i.gain ≤ℤ highest_price

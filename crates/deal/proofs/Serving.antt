@@ -1,5 +1,5 @@
 -- The others of a level as claims of the share-out.
-use Rattle.std.proofs.Common.{◌≡◌, ℕ, ◌≤◌, Bool, true, false, cond, ◌&&◌, eqb, leb, List, [], ◌∷◌, map, length, ℤ, IsOk, Ok, Err, sum, Result, sym, refl, ap, ◌∙◌, subst, arith}
+use Rattle.std.proofs.Common.{◌≡◌, ℕ, suc, ◌≤◌, Bool, true, false, cond, ◌&&◌, eqb, leb, List, [], ◌∷◌, map, length, ℤ, IsOk, Ok, Err, sum, Result, sym, refl, ap, ◌∙◌, subst, arith}
 use Rattle.std.proofs.lemmas.List.{length-map}
 use Rattle.std.proofs.lemmas.Bool.{and_from, le-leb, eq-eqb, cond-true}
 use Rattle.market.specs.Lists.{all_of}
@@ -11,6 +11,12 @@ use Rattle.filling.specs.Totals.{other_at, sizes, contracts}
 use Rattle.deal.specs.declared.turns.Turn.{Turn}
 use Rattle.deal.specs.Levels.{turns_from}
 use Rattle.deal.proofs.Turning.{turn_sizes, turns_rise}
+
+pub no_more : (p : Interest → Bool) (ls : List Interest) → length (sizes p ls) ≤ length ls
+no_more p [] = omega arith
+no_more p (l ∷ ls) =
+    let ih = no_more p ls in
+    elim (p l) as (λ b. length (cond b (l.size ∷ sizes p ls) (sizes p ls)) ≤ suc (length ls)) [ true ↦ omega arith | false ↦ omega arith ]
 
 all_small : (p : Interest → Bool) (ls : List Interest) → all_of small (sizes p ls) ≡ true
 all_small p [] = refl

@@ -29,6 +29,9 @@ use Rattle.grammar.proofs.Spelling.{Spells, none, opens, closes, words, join, pa
 pub ok_same : {A E : Type 0} (x y : A) → ◌≡◌ {A = Result A E} (Ok x) (Ok y) → x ≡ y
 ok_same x y e = cc
 
+pub never_ok : {A B E : Type 0} (t : E) (x : A) → ◌≡◌ {A = Result A E} (Err t) (Ok x) → B
+never_ok t x e = cc
+
 pub never_some : {A B : Type 0} (x : A) → ◌≡◌ {A = Option A} None (Some x) → B
 never_some x e = cc
 

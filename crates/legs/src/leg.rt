@@ -8,7 +8,7 @@ use market::names::Side;
 pub mod ops;
 
 // How often the leg is bought or sold in the net, and what is bid and offered for it.
-#[derive(Drop)]
+#[derive(Clone, Copy)]
 pub struct LegQuotes {
     side: Side,
     ratio: u32,

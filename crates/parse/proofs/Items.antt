@@ -6,6 +6,10 @@ use Rattle.forms.specs.declared.trouble.Trouble.{Trouble}
 use Rattle.parse.specs.Parser.{Read, then, onto, more, up_to, items_of}
 use Rattle.parse.specs.View.{asked}
 
+pub onto_none : {A : Type 0} (r : Read (List A)) → onto [] r ≡ r
+onto_none (Err t) = refl
+onto_none (Ok x) = refl
+
 pub onto_more : {A : Type 0} (xs : List A) (x : A) (r : Read (List A)) → onto (xs ++ x ∷ []) r ≡ onto xs (onto (x ∷ []) r)
 onto_more xs x (Err t) = refl
 onto_more xs x (Ok r) = λ j. Ok (append_assoc xs (x ∷ []) r.0 j, r.1)
@@ -33,6 +37,12 @@ pub items_more : {A : Type 0} (next : List Tok → Read (Option A)) → Takes ne
 items_more next takes ts us x e =
     let l = takes ts us x e in
     ap (λ r. then r (λ o vs. more o vs (up_to next (length ts)))) e ∙ ap (onto (x ∷ [])) (enough next takes (length ts) (suc (length us)) us l (omega arith))
+
+pub items_all : {A : Type 0} (next : List Tok → Read (Option A)) (ts us : List Tok) → next ts ≡ Ok (None, us) → items_of next ts ≡ Ok ([], us)
+items_all next ts us e = ap (λ r. then r (λ o vs. more o vs (up_to next (length ts)))) e
+
+pub items_trouble : {A : Type 0} (next : List Tok → Read (Option A)) (ts : List Tok) (t : Trouble) → next ts ≡ Err t → items_of next ts ≡ Err t
+items_trouble next ts t e = ap (λ r. then r (λ o vs. more o vs (up_to next (length ts)))) e
 
 -- an item that is passed over
 pub passed : {A : Type 0} (next : List Tok → Read (Option A)) → Takes next → (ts us : List Tok) (o : Option A) → next ts ≡ Ok (o, us) → true ≡ is_some o → asked (items_of next us) ≡ asked (items_of next ts)

@@ -1,5 +1,5 @@
 // Two depths or pools as one.
-ghost use Rattle.std.specs.Prelude.{◌++◌, take};
+ghost use Rattle.std.specs.Prelude.{◌≡◌, ◌++◌, take, nat_le};
 ghost use Rattle.market.specs.Limits.{most_entries};
 ghost use Rattle.pools.specs.Pairs.{PairTook};
 ghost use Rattle.std.proofs.Common.{arith};
@@ -15,6 +15,13 @@ use market::refusal::Refusal;
 pub struct Pair<A, B> {
     pub first: A,
     pub second: B,
+}
+
+// Whether a place is in a first list of so many entries.
+fn in_first(place: usize, front: usize) -> bool
+    ensures { result ≡ nat_le place front }
+{
+    place <= front
 }
 
 impl<X: Depth, Y: Depth> Depth for Pair<X, Y> {
@@ -33,7 +40,7 @@ impl<X: Depth, Y: Depth> Depth for Pair<X, Y> {
             return Err(Refusal::NotTakable);
         }
         let front = self.first.count();
-        if place <= front {
+        if in_first(place, front) {
             self.first.entry(place)
         } else {
             self.second.entry(place - front)
@@ -50,7 +57,7 @@ impl<X: Pool, Y: Pool> Pool for Pair<X, Y> {
             return Err(Refusal::NotTakable);
         }
         let front = self.first.count();
-        if place <= front {
+        if in_first(place, front) {
             self.first.take(place, n)
         } else {
             self.second.take(place - front, n)

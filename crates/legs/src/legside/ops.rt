@@ -2,7 +2,7 @@
 ghost use Rattle.std.specs.Prelude.{◌≡◌, ℕ, ◌≤◌, ◌*◌, true, false, ◌&&◌, IfOk, IfErr, length, sum, slice_index};
 ghost use Rattle.legs.specs.Limits.{highest_quote, most_quotes, most_quoted};
 ghost use Rattle.legs.specs.Model.{taken_side, bare, less};
-ghost use Rattle.legs.specs.Sides.{side_held};
+ghost use Rattle.legs.specs.Sides.{quotes_of, side_held};
 ghost use Rattle.legs.specs.Quotes.{sizes, places};
 ghost use Rattle.legs.specs.Fields.{price_ok, sizes_ok};
 ghost use Rattle.legs.specs.Quoting.{quoted_side};
@@ -10,7 +10,6 @@ ghost use Rattle.legs.specs.Quoting.{quoted_side};
 use super::super::fields::side_ok;
 use super::super::quote::Quote;
 use super::{LegSide, MOST_QUOTES};
-use arrayvec::ArrayVec;
 use market::refusal::Refusal;
 use share::share_out;
 
@@ -34,7 +33,8 @@ impl LegSide {
     {
         LegSide {
             price: 1,
-            quotes: ArrayVec::new(),
+            quotes: [Quote::default(); MOST_QUOTES],
+            count: 0,
         }
     }
 
@@ -46,19 +46,28 @@ impl LegSide {
         if !side_ok(price, sizes) {
             return Err(Refusal::OutOfLimits);
         }
-        // By hand: `ArrayVec::from_iter` answers a `Result`, though the quotes always have room; and `try_from` tests the
-        // types' limits, which are wider than these.
-        let mut quotes = ArrayVec::new();
+        // By place: what is written through the `iter_mut` of a `zip` is not known afterwards. And by hand: `try_from` tests
+        // the types' limits, which are wider than these.
+        let mut quotes = [Quote::default(); MOST_QUOTES];
         for (place, size) in sizes.iter().enumerate() {
-            quotes.push(Quote {
+            quotes[place] = Quote {
                 place: place as u32,
                 size: *size as u32,
-            });
+            };
         }
         Ok(LegSide {
             price: price as u32,
             quotes,
+            count: sizes.len(),
         })
+    }
+
+    // Its quotes.
+    fn quotes(&self) -> &[Quote]
+        ensures all { result.now ≡ quotes_of self.now }
+        ensures few { length result.now ≤ most_quotes }
+    {
+        &self.quotes[..self.count]
     }
 
     pub(crate) fn price(&self) -> u32
@@ -73,7 +82,7 @@ impl LegSide {
         ensures value { result ≡ sum (side_held self.now).quotes }
         ensures bound { result ≤ most_quotes * most_quoted }
     {
-        self.quotes.iter().map(|quote| quote.size).sum()
+        self.quotes().iter().map(|quote| quote.size).sum()
     }
 
     // Takes an amount by the share-out.
@@ -83,8 +92,9 @@ impl LegSide {
     {
         // A table on the stack, lent to the share-out, so that nothing is allocated.
         let mut out = [0u32; MOST_QUOTES];
-        let parts = &mut out[..self.quotes.len()];
-        share_out(amount, &self.quotes, parts).unwrap();
-        lower(&mut self.quotes, parts);
+        let count = self.count;
+        let parts = &mut out[..count];
+        share_out(amount, self.quotes(), parts).unwrap();
+        lower(&mut self.quotes[0..count], parts);
     }
 }

@@ -134,9 +134,13 @@ impl Depth for LegsMarket {
         IMPLIED_ORDERS
     }
 
+    // By hand, and not by `side_at`: each place names the order that it shows.
     fn entry(&self, place: usize) -> Result<Entry, Refusal> {
-        let side = side_at(place)?;
-        Ok(self.implied(side))
+        match place {
+            1 => Ok(self.implied(Side::Buy)),
+            2 => Ok(self.implied(Side::Sell)),
+            _ => Err(Refusal::NotTakable),
+        }
     }
 }
 

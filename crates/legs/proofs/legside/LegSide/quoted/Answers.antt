@@ -1,4 +1,4 @@
-use Rattle.std.proofs.Common.{get_or, pos, refl, rules, arith, w64, SFits, true, ◌≡◌, ◌&&◌, tests}
+use Rattle.std.proofs.Common.{◌<◌, get_or, pos, refl, rules, arith, w64, SFits, true, length, ◌≡◌, ◌&&◌, tests}
 use Rattle.std.proofs.lemmas.Bool.Decides.{nat_tests}
 use Rattle.std.proofs.lemmas.Bool.{and_parts}
 use Rattle.market.specs.Lists.{all_of}
@@ -6,7 +6,7 @@ use Rattle.market.proofs.Narrow.{narrow, cast_abs}
 use Rattle.market.proofs.Tested.{each_ok}
 use Rattle.legs.specs.Limits.{most_quoted, highest_quote}
 use Rattle.legs.specs.Fields.{price_ok, size_ok, sizes_ok}
-use Rattle.legs.proofs.Sided.{quoting_more, quoted_long, quoted_line}
+use Rattle.legs.proofs.Sided.{quoting_more, quoted_line}
 use Rattle.legs.proofs.legside.LegSide.quoted.Goals as goal
 
 pub loop-place-preserved : goal.loop-place-preserved
@@ -16,8 +16,9 @@ loop-place-preserved c =
     let z = get_or zs i (pos 0) in
     let f : SFits w64 z = search rules in
     let each : all_of size_ok zs ≡ true = grind (arith, nat_tests) in
-    let ok = each_ok size_ok zs i (pos 0) each c.loop-place-test.true in
-    quoting_more _ _ _ _ _ c.loop-place.invariant c.loop-place-test.true c.push.ensures.items refl (cast_abs 1 most_quoted z f ok)
+    let here : i < length zs = c.loop-place-test.true in
+    let room : i < 8 = grind (arith, nat_tests) in
+    quoting_more zs c.loop-place.quotes i _ c.loop-place.invariant here room refl (cast_abs 1 most_quoted z f (each_ok size_ok zs i (pos 0) each here))
 
 pub invariant_of-result : goal.invariant_of-result
 invariant_of-result c =
@@ -27,10 +28,11 @@ invariant_of-result c =
     let price = (and_parts (price_ok z) (sizes_ok c.args.sizes.now) ok).0 in
     let k = narrow 1 highest_quote z price in
     let e = cast_abs 1 highest_quote z f price in
-    let long = quoted_long _ _ _ c.loop-place.invariant in
+    let done : c.loop-place.place ≡ length c.args.sizes.now = omega arith in
     record {
       low = omega arith;
       high = omega arith;
+      whole = c.loop-place.invariant.whole;
       few = grind (arith, nat_tests);
-      line = quoted_line _ _ _ c.loop-place.invariant;
+      line = quoted_line _ _ _ c.loop-place.invariant done;
     }
