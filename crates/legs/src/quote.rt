@@ -12,7 +12,7 @@ pub struct Quote {
     ghost few: { size ≤ most_quoted },
 }
 
-// An `ArrayVec` fills its unused places with it. By hand: a struct with a ghost field derives none.
+// What an unused place holds. By hand: a struct with a ghost field derives none.
 impl Default for Quote {
     ghost is_default = { λ q. (q.place ≡ 0) × (q.size ≡ 0) };
 

@@ -93,8 +93,9 @@ impl LegSide {
         // A table on the stack, lent to the share-out, so that nothing is allocated.
         let mut out = [0u32; MOST_QUOTES];
         let count = self.count;
-        let parts = &mut out[..count];
+        let parts = &mut out[0..count];
         share_out(amount, self.quotes(), parts).unwrap();
+        // `0..count`, since a field that is lent by `..count` is not covered.
         lower(&mut self.quotes[0..count], parts);
     }
 }

@@ -1,4 +1,4 @@
-use Rattle.std.proofs.Common.{◌<◌, get_or, pos, refl, rules, arith, w64, SFits, true, length, ◌≡◌, ◌&&◌, tests}
+use Rattle.std.proofs.Common.{◌<◌, get_or, pos, rules, arith, w64, SFits, true, length, ◌≡◌, ◌&&◌, tests}
 use Rattle.std.proofs.lemmas.Bool.Decides.{nat_tests}
 use Rattle.std.proofs.lemmas.Bool.{and_parts}
 use Rattle.market.specs.Lists.{all_of}
@@ -18,7 +18,7 @@ loop-place-preserved c =
     let each : all_of size_ok zs ≡ true = grind (arith, nat_tests) in
     let here : i < length zs = c.loop-place-test.true in
     let room : i < 8 = grind (arith, nat_tests) in
-    quoting_more zs c.loop-place.quotes i _ c.loop-place.invariant here room refl (cast_abs 1 most_quoted z f (each_ok size_ok zs i (pos 0) each here))
+    quoting_more zs c.loop-place.quotes i _ c.loop-place.invariant here room (omega arith) (cast_abs 1 most_quoted z f (each_ok size_ok zs i (pos 0) each here))
 
 pub invariant_of-result : goal.invariant_of-result
 invariant_of-result c =
