@@ -5,7 +5,7 @@ use Rattle.market.specs.declared.names.Side.{Side}
 use Rattle.market.specs.declared.names.Side.TheVariants.{Buy, Sell}
 use Rattle.market.specs.declared.refusal.Refusal.TheVariants.{NotTakable}
 use Rattle.market.specs.Limits.{most_size}
-use Rattle.market.specs.Lists.{up_to, placed, entry_at, take_answer, after_take, lowered}
+use Rattle.market.specs.Lists.{up_to, placed, take_answer, after_take, lowered}
 use Rattle.market.proofs.Placing.{up_to_bounds}
 use Rattle.legs.specs.declared.leg.LegQuotes.{LegQuotes}
 use Rattle.legs.specs.Model.{LegHeld, net_size, implied, listed, taken_leg, can_take, taken_legs, taken_answer}
@@ -48,15 +48,9 @@ module _ (n : ℕ) (qs : List LegQuotes) where
   sell_answer : taken_answer Sell n ls ≡ take_answer (listed ls) 2 n
   sell_answer = sym (ap (λ k. cond (up_to k n) (Ok tt) (Err NotTakable)) (uncut Sell))
 
--- where a place has a side, the implied order of the side stands there, and a take there is a take of it
+-- where a place has a side, a take there is a take of the implied order of the side
 abbrev pub AtSide : ℕ → Side → Type 0
 AtSide p s = ok_or (placed (Buy ∷ Sell ∷ []) p) NotTakable ≡ Ok s
-
-pub side_entry : (p : ℕ) (s : Side) (ls : List LegHeld) → AtSide p s → Ok (implied s ls) ≡ entry_at (listed ls) p
-side_entry zero s ls e = cc
-side_entry (suc zero) s ls e = cc
-side_entry (suc (suc zero)) s ls e = cc
-side_entry (suc (suc (suc p))) s ls e = cc
 
 pub side_answer : (p : ℕ) (s : Side) (n : ℕ) (qs : List LegQuotes) → AtSide p s → taken_answer s n (map leg_held qs) ≡ take_answer (listed (map leg_held qs)) p n
 side_answer zero s n qs e = cc
